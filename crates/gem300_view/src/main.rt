@@ -1,5 +1,6 @@
 //! The program for people who look rather than read (this tool's profile, docs/profile/view.md): `gem300_view words [CONFIG]` prints a
-//! transcript in words, and `gem300_view pcap [CONFIG]` writes it as a capture file.
+//! transcript in words, `gem300_view pcap [CONFIG]` writes it as a capture file, `gem300_view chart CONFIG` draws what happened to each
+//! wafer of a run, and `gem300_view states TABLE` draws a state model.
 //!
 //! It hands its arguments, standard input and standard output to `view_calls::run_view`, says why the run ended on standard error, and
 //! ends with its status.

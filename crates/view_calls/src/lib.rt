@@ -1,5 +1,5 @@
 //! What the program `gem300_view` does with its words (this tool's profile, docs/profile/view.md): it hands a configuration, an input and
-//! an output to `transcripts`, and prints what `--help` and `--version` ask for.
+//! an output to `transcripts` or to `run_charts`, draws a state model by `state_charts`, and prints what `--help` and `--version` ask for.
 //!
 //! It ends no process and reads no argument of one: `gem300_view` does, and `view_runs` calls it with words of its own. Begin with
 //! `run_view`.
@@ -9,6 +9,8 @@ use gem_ids::Text80;
 use line_feeding::{Cause, read_configuration};
 use outside::{FileSource, Sink, Source, write_all};
 use program_words::{Question, WordsFault, asked};
+use run_charts::run_chart;
+use state_charts::{chart_named, draw_chart};
 use std::alloc::{AllocError, Global};
 use std::rt::Files;
 use tool_events::Config;
@@ -103,20 +105,33 @@ fn run_pcap<R: Files, S: Source, K: Sink>(
     }
 }
 
+// Writes a text, and tells why that ended.
+fn write_text<K: Sink>(text: &str, out: &mut K) -> Cause {
+    match write_all(out, text.as_bytes()) {
+        Ok(()) => Cause::Done,
+        Err(_) => Cause::WriteFault,
+    }
+}
+
 // Prints what the words ask for, and tells why that ended.
 fn answer<K: Sink>(alloc: Global, question: Question, out: &mut K) -> Result<Cause, AllocError> {
     let text = match question {
         Question::Help => help_text(alloc)?,
         Question::Version => version_text(alloc)?,
     };
-    match write_all(out, text.as_bytes()) {
-        Ok(()) => Ok(Cause::Done),
-        Err(_) => Ok(Cause::WriteFault),
+    Ok(write_text(text.as_str(), out))
+}
+
+// Draws the state model of this name, which is the second word, and tells why that ended.
+fn draw_states<K: Sink>(alloc: Global, name: &str, out: &mut K) -> Result<Cause, AllocError> {
+    match chart_named(name) {
+        Some(chart) => Ok(write_text(draw_chart(alloc, chart)?.as_str(), out)),
+        None => Ok(Cause::Words(1)),
     }
 }
 
-// The name of the configuration's file, as it was given.
-fn config_path(args: &[String]) -> &str {
+// The second word, as it was given: the name of the configuration's file, or of a state model.
+fn second_word(args: &[String]) -> &str {
     match args.get(2) {
         Some(path) => path.as_str(),
         None => "",
@@ -124,9 +139,10 @@ fn config_path(args: &[String]) -> &str {
 }
 
 /// Does what the arguments ask for, of which the first is the program's own name: prints what `--help` and `--version` ask for, or does the
-/// command that the words spell, over this input and this output. Tells why it ended: `Words` where the words spell no command, `Config`
-/// where the configuration says none, `Line` where a line is none of a transcript, and the faults of reading and writing. `AllocError`
-/// where there was no memory for the words or a text.
+/// command that the words spell, over this input and this output. Tells why it ended: `Words` where the words spell no command, or a
+/// state model is asked for that there is not, `Config` where the configuration says none, `Line` where a line is none of a transcript or
+/// of a run, `Full` where the history of a run takes no more, and the faults of reading and writing. `AllocError` where there was no
+/// memory for the words or a text.
 pub fn run_view<R: Files, S: Source, K: Sink>(
     rt: &R,
     alloc: Global,
@@ -138,10 +154,17 @@ pub fn run_view<R: Files, S: Source, K: Sink>(
     if let Some(question) = asked(&words) {
         return answer(alloc, question, out);
     }
-    let path = config_path(args);
+    let second = second_word(args);
     match command_of(&words) {
-        Ok(ViewWords::Words(config)) => Ok(run_words(rt, alloc, path, config, input, out)),
-        Ok(ViewWords::Pcap(config)) => Ok(run_pcap(rt, alloc, path, config, input, out)),
+        Ok(ViewWords::Words(config)) => Ok(run_words(rt, alloc, second, config, input, out)),
+        Ok(ViewWords::Pcap(config)) => Ok(run_pcap(rt, alloc, second, config, input, out)),
+        Ok(ViewWords::Chart(_)) => Ok(run_chart(
+            alloc,
+            &mut FileSource::new(rt, second),
+            input,
+            out,
+        )),
+        Ok(ViewWords::States(_)) => draw_states(alloc, second, out),
         Err(WordsFault::Place(place)) => Ok(Cause::Words(place)),
     }
 }

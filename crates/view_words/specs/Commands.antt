@@ -10,10 +10,16 @@ abbrev pub SpellsNamed : List ℕ → List (List ℕ) → Option (List ℕ) → 
 SpellsNamed name words None = words ≡ name ∷ []
 SpellsNamed name words (Some config) = (words ≡ name ∷ (config ∷ [])) × IsTrue (is_file_word config)
 
--- the words spell the command: `words`, `words CONFIG`, `pcap` or `pcap CONFIG`
+-- the words are this name, and behind it one that can name a file or a picture
+abbrev pub SpellsWith : List ℕ → List (List ℕ) → List ℕ → Type 0
+SpellsWith name words word = (words ≡ name ∷ (word ∷ [])) × IsTrue (is_file_word word)
+
+-- the words spell the command: `words`, `words CONFIG`, `pcap`, `pcap CONFIG`, `chart CONFIG` or `states TABLE`
 abbrev pub Spells : List (List ℕ) → ViewWords → Type 0
 Spells words (command.Words config) = SpellsNamed (codes "words") words config
 Spells words (command.Pcap config) = SpellsNamed (codes "pcap") words config
+Spells words (command.Chart config) = SpellsWith (codes "chart") words config
+Spells words (command.States table) = SpellsWith (codes "states") words table
 
 -- a name alone
 abbrev pub name_places : List ℕ → Places
@@ -27,6 +33,18 @@ file_places name = (λ word. bytes_eq word name) ∷ (is_file_word ∷ [])
 abbrev pub misfit_named : List ℕ → List (List ℕ) → Option ℕ
 misfit_named name words = later (misfit_of 0 (name_places name) words) (misfit_of 0 (file_places name) words)
 
+-- the first word that doesn't fit a name with a word behind it
+abbrev pub misfit_with : List ℕ → List (List ℕ) → Option ℕ
+misfit_with name words = misfit_of 0 (file_places name) words
+
+-- the first word that fits neither `words [CONFIG]` nor `pcap [CONFIG]`
+abbrev pub misfit_transcript : List (List ℕ) → Option ℕ
+misfit_transcript words = later (misfit_named (codes "words") words) (misfit_named (codes "pcap") words)
+
+-- the first word that fits neither `chart CONFIG` nor `states TABLE`
+abbrev pub misfit_picture : List (List ℕ) → Option ℕ
+misfit_picture words = later (misfit_with (codes "chart") words) (misfit_with (codes "states") words)
+
 -- the first word, counted from 0, that fits no command, where the words spell none; a word that is missing counts as it
 abbrev pub misfit : List (List ℕ) → Option ℕ
-misfit words = later (misfit_named (codes "words") words) (misfit_named (codes "pcap") words)
+misfit words = later (misfit_transcript words) (misfit_picture words)

@@ -6,7 +6,10 @@ use std::alloc::{AllocError, Global};
 // What stands below the commands in the usage text.
 const MORE: &str = "\
 Words:
-  CONFIG  a file: the configuration of the tool, where it is not the first one
+  CONFIG  a file: the configuration of the tool; that of a transcript is the first one where it is left out
+  TABLE   the name of a state model: communication, control, spool_load, spool_unload, notes, transfer, access,
+          reservation, association, carrier_id, slot_map, accessing, location, transport, processing, process_job,
+          control_job or module
 
 A transcript is what `gem300_tool feed` was given and printed, line by line.
 
@@ -16,7 +19,8 @@ Standard error tells why the program ends. Its status is:
   2  config rule N key K  the configuration breaks rule N at key K
   3  read fault           a file or the input could not be read
   4  write fault          standard output took no more
-  6  line N at P          line N of the input is none of a transcript from byte P on
+  5  full E B I           the history of a run takes no more
+  6  line N at P          line N of the input is none of a transcript, or of a run, from byte P on
   7  no memory
 
 docs/profile/view.md has all of it.";
@@ -26,6 +30,11 @@ const WORDS: &str = "Reads a transcript from standard input and prints it in wor
 
 const PCAP: &str =
     "Reads a transcript from standard input and writes a capture file: pcap [CONFIG]";
+
+const CHART: &str =
+    "Reads the lines of a run from standard input and draws what happened to each wafer: chart CONFIG";
+
+const STATES: &str = "Draws the states and the rows of a table: states TABLE";
 
 // A command of this name, with what it does.
 fn command<'a>(alloc: Global, name: &'a str, about: &'a str) -> Command<'a> {
@@ -46,7 +55,8 @@ fn described<'a>(alloc: Global) -> Command<'a> {
         .version("1.0.00")
         .about("Shows what a GEM300 equipment controller was told and said")
         .override_usage(
-            "gem300_view words [CONFIG]\n       gem300_view pcap [CONFIG]\n       gem300_view --help | --version",
+            "gem300_view words [CONFIG]\n       gem300_view pcap [CONFIG]\n       gem300_view chart CONFIG\n       \
+             gem300_view states TABLE\n       gem300_view --help | --version",
         )
         .after_help(MORE)
 }
@@ -63,7 +73,9 @@ fn bare<'a>(alloc: Global) -> Command<'a> {
 fn commanded<'a>(alloc: Global) -> Result<Command<'a>, AllocError> {
     bare(alloc)
         .subcommand(command(alloc, "words", WORDS))?
-        .subcommand(command(alloc, "pcap", PCAP))
+        .subcommand(command(alloc, "pcap", PCAP))?
+        .subcommand(command(alloc, "chart", CHART))?
+        .subcommand(command(alloc, "states", STATES))
 }
 
 // The program with its commands and options.

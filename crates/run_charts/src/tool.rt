@@ -7,7 +7,7 @@ use gem_ids::{CmdNo, ModuleId, Moment, Text80};
 use hsms_frame::{Arrival, Bytes, Frame, Header};
 use secs_items::{Item, read_one};
 use std::alloc::{AllocError, Global};
-use tool_core::Core;
+use tool_core::{Core, Recorder};
 use tool_events::{Answer, Config, Event};
 use wafer_chart::{JobShot, Shot};
 

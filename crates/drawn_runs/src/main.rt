@@ -20,7 +20,7 @@ struct Drawn {
 }
 
 // The chart of the run of this name.
-fn drawn(rt: &HostRuntime, alloc: Global, name: &str) -> Result<Drawn, AllocError> {
+fn chart_of(rt: &HostRuntime, alloc: Global, name: &str) -> Result<Drawn, AllocError> {
     let config = format!(in alloc; "{name}.toml")?;
     let lines = format!(in alloc; "{name}.lines")?;
     let mut config = FileSource::new(rt, config.as_str());
@@ -35,7 +35,7 @@ fn drawn(rt: &HostRuntime, alloc: Global, name: &str) -> Result<Drawn, AllocErro
 
 // Compares the chart of this name, and prints a line of it.
 fn compare(rt: &HostRuntime, alloc: Global, name: &str) -> Result<(), AllocError> {
-    let drawn = drawn(rt, alloc, name)?;
+    let drawn = chart_of(rt, alloc, name)?;
     let path = format!(in alloc; "{name}.svg")?;
     let is_same = match fs::read(rt, path.as_str()) {
         Ok(shipped) => shipped.as_slice() == drawn.text.as_slice(),
@@ -62,7 +62,7 @@ fn compare_all(rt: &HostRuntime, alloc: Global) -> Result<(), AllocError> {
 // Prints each chart behind a line that begins with a sign with which no line of a chart begins and a blank.
 fn print_all(rt: &HostRuntime, alloc: Global) -> Result<(), AllocError> {
     for name in RUNS {
-        let drawn = drawn(rt, alloc, name)?;
+        let drawn = chart_of(rt, alloc, name)?;
         let text = String::from_utf8_lossy(alloc, drawn.text.as_slice())?;
         let all = format!(in alloc; "@ {name}\n{text}")?;
         let _ = rt.print(all.as_str());

@@ -1,6 +1,10 @@
 //! Items that are drawn, whose words are read again by the reader of the tests (`conversation_files`), which follows the standard and
 //! knows nothing of the tool: the bytes are those that the tool sends of the item.
 
+ghost use Rattle.std.specs.Prelude.{◌≤◌};
+ghost use Rattle.item_model.specs.Height.{height};
+ghost use Rattle.item_model.specs.View.{view};
+
 use conversation_files::item;
 use item_words::{laid_words, words};
 use secs_items::{Item, encode, read_one};
@@ -107,7 +111,9 @@ fn is_read_as(alloc: Global, words: &[u8], bytes: &[u8]) -> bool {
 }
 
 // Whether both forms of the words of an item are read as it.
-fn is_read_again(alloc: Global, drawn: &[u8], found: &Item) -> Result<bool, AllocError> {
+fn is_read_again(alloc: Global, drawn: &[u8], found: &Item) -> Result<bool, AllocError>
+    requires { height (view found.now) ≤ 16 }
+{
     let line = words(alloc, found)?;
     let lines = laid_words(alloc, 4, found)?;
     Ok(is_read_as(alloc, line.as_slice(), drawn) && is_read_as(alloc, lines.as_slice(), drawn))

@@ -1,3 +1,4 @@
 pub mod Functions
 pub mod Listed
 pub mod Reading
+pub mod Asked

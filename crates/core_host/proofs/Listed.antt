@@ -13,8 +13,8 @@ use Rattle.gem_model.specs.Messages as model
 use Rattle.gem_model.specs.Direct.{Are, IsListed}
 use Rattle.gem_model.specs.Direct.{by_comm, by_control}
 use Rattle.gem_model.proofs.Listed.{listed_message}
-use Rattle.host_replies.specs.declared.done.Done.{Done}
-use Rattle.host_replies.specs.Dones.{done_view}
+use Rattle.host_messages.specs.declared.done.Done.{Done}
+use Rattle.host_messages.specs.Dones.{done_view}
 
 -- the rows of a message
 pub done_listed : (told : Done) (after : State) (m : HostMessage) (g : State) (rows : List Firing) → done_view told after ≡ model.done g m → rows ≡ told.rows → Are IsListed rows

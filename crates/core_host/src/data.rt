@@ -21,18 +21,18 @@ ghost use Rattle.gem_model.specs.Act.{replied, taken, taken_as, closed_by, note_
 ghost use Rattle.core_host.specs.declared.data.HostAct.TheVariants as told;
 ghost use Rattle.core_host.specs.HostActs.{act_of, host_act, reply_act};
 ghost use Rattle.core_host.specs.Rules.{rule_view};
-ghost use Rattle.host_replies.specs.Dones.{done_view, CanBeSent};
-ghost use Rattle.host_requests.specs.Short.{IsShort};
+ghost use Rattle.host_messages.specs.Dones.{done_view, CanBeSent};
+ghost use Rattle.host_messages.specs.Short.{IsShort};
 
+use crate::messages::gem_done;
+use crate::shop::shop_done;
 use crate::verdict::{Rule, first_rule};
 use core_state::Plant;
 use gem_states::{CommTrigger, ControlTrigger};
-use host_gem::gem_done;
-use host_replies::{Done, Rows, reply_text};
-use host_requests::{
-    header_of, is_message, is_too_long, item_of, stream_of, text_item, told_by, wants_reply,
+use host_messages::{
+    Done, Rows, header_of, is_message, is_too_long, item_of, reply_text, stream_of, text_item,
+    told_by, wants_reply,
 };
-use host_shop::shop_done;
 use hsms_frame::{Arrival, Bytes, Header};
 use item_model::Item;
 use message_model::{GemMsg, ShopMsg};

@@ -8,7 +8,7 @@ ghost use Rattle.core_host.specs.Rules.{rule_view};
 
 use core_state::Plant;
 use gem_states::Comm;
-use host_requests::{is_message, stream_of};
+use host_messages::{is_message, stream_of};
 use hsms_frame::Header;
 use transactions::What;
 

@@ -7,7 +7,7 @@
 //! and keeps no history, which is for `tool_core`: each call here is one change that an event may make. How the tool settles behind
 //! such changes is for `core_settling`. It reads no clock, no file and no link. Contracts see a `Plant` as the `State` of the definitions in `gem_model`.
 //!
-//! What its variables show is told by `plant_values`, of what `Plant::seen` gives, and what the host asks of its data by `host_asks`.
+//! What its variables show is told by `plant_values`, of what `Plant::seen` gives, and what the host asks of its data by `host_messages`.
 //!
 //! Memory may run out in each call that is handed an allocator; it answers `AllocError` then, and nothing is said of
 //! the plant after that. Begin with `Plant::open`.

@@ -4,7 +4,7 @@ ghost use Rattle.gem_tables.specs.Table.{firing};
 ghost use Rattle.spool.specs.Spool.{is_inactive, rsda};
 ghost use Rattle.note_line.specs.Line.{answered, fate_of, open_head, open_oldest, restated, with_kinds};
 ghost use Rattle.note_line.specs.Table3.{least, head_in_kind, row_effect};
-ghost use Rattle.note_counts.specs.Counts.{answered_count, dropped_count};
+ghost use Rattle.note_line.specs.Counts.{answered_count, dropped_count};
 ghost use Rattle.gem_model.specs.State.{around};
 ghost use Rattle.gem_model.specs.Fire.{fire};
 

@@ -10,7 +10,7 @@ ghost use Rattle.transactions.specs.Table.{none_open};
 
 use data_variables::Constants;
 use event_reports::{Alarms, Reports};
-use note_counts::CountedLine;
+use note_line::CountedLine;
 use plant_parts::{first_constants, first_kinds};
 use std::alloc::{AllocError, Global};
 use tool_events::Config;

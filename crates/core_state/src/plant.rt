@@ -17,7 +17,7 @@ use gem_ids::Moment;
 use gem_states::{Comm, Control};
 use hsms_frame::Bytes;
 use hsms_link::{LinkState, Phase, Ping};
-use note_counts::CountedLine;
+use note_line::CountedLine;
 use note_line::Around;
 use plant_parts::{first_comm, first_control, first_switch};
 use plant_values::Seen;

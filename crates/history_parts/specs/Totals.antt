@@ -2,7 +2,7 @@
 use Rattle.std.specs.Prelude.{ℕ, List, length}
 use Rattle.tool_events.specs.declared.config.Config.{Config}
 use Rattle.tool_events.specs.declared.entry.Entry.{Entry}
-use Rattle.note_counts.specs.Counts.{answered_count, dropped_count}
+use Rattle.note_line.specs.Counts.{answered_count, dropped_count}
 use Rattle.gem_model.specs.State.{State, opening}
 use Rattle.gem_model.specs.Run.{after_all}
 use Rattle.gem_model.specs.Sizes.{counted}

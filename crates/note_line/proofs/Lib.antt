@@ -11,3 +11,5 @@ pub mod Short
 pub mod Opens
 pub mod Stays
 pub mod Sendings
+mod Counting
+mod CountedStanding

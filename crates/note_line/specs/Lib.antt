@@ -6,3 +6,4 @@ pub mod Fates
 pub mod Limits
 pub mod Kept
 pub mod Worked
+pub mod Counts

@@ -3,10 +3,12 @@
 //!
 //! It holds the notes and knows what became of each. It makes no texts, starts no transactions and sends nothing: its
 //! caller sends the note that `open_head` or `open_oldest` opens, and tells how its transaction ended. Begin with
-//! `NoteLine::new`, then `add`, `row_for` and the row's effect.
+//! `NoteLine::new`, then `add`, `row_for` and the row's effect. `CountedLine` is such a line with how many of its notes were answered
+//! and how many dropped, which it counts as they end, so that no call goes through all notes; it adds no rule.
 #![tactic(auto)]
 
 mod around;
+mod counted_line;
 mod fate;
 pub mod laws;
 mod line;
@@ -14,6 +16,7 @@ mod told;
 pub mod worked;
 
 pub use around::{Around, SpooledKinds};
+pub use counted_line::CountedLine;
 pub use fate::{DropCause, Fate, Told};
 pub use line::NoteLine;
 pub use spool::{Kind, MOST_TEXT, Note};

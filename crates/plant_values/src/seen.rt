@@ -9,7 +9,7 @@ use gem_ids::Moment;
 use gem_states::{Comm, Control};
 use hsms_frame::Bytes;
 use hsms_link::LinkState;
-use note_counts::CountedLine;
+use note_line::CountedLine;
 use std::collections::VecDeque;
 use std::marker::Model;
 use tool_events::Config;

@@ -6,7 +6,7 @@ ghost use Rattle.hsms_link.specs.LinkTable.{link_act};
 ghost use Rattle.gem_model.specs.State.{is_up};
 ghost use Rattle.gem_model.specs.Verdict.{header_of};
 ghost use Rattle.gem_model.specs.Step.{acts, step, step_from, hosted, linked};
-ghost use Rattle.host_requests.specs.Short.{IsShort};
+ghost use Rattle.host_messages.specs.Short.{IsShort};
 ghost use Rattle.core_shop.specs.Reactions.{done, Acts, outcome_of};
 ghost use Rattle.gem_model.specs.Sizes.{counted};
 ghost use Rattle.history_parts.specs.Additions.{completed_from, completed_by};

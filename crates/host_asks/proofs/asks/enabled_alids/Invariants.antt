@@ -1,8 +1,0 @@
-use Rattle.std.proofs.Common.{◌≡◌, ◌++◌, drop, map}
-use Rattle.std.specs.List.{filter}
-use Rattle.event_reports.specs.declared.alarms.AlarmLine.{AlarmLine}
-use Rattle.host_asks.proofs.asks.enabled_alids.Given as goal
-
--- what was found stands before what the others give
-abbrev pub invariant-loop-alarm : goal.invariant-loop-alarm
-invariant-loop-alarm l = map (λ (a : AlarmLine). a.alid) (filter (λ (a : AlarmLine). a.enabled) l.alarm-items) ≡ l.ids.items ++ map (λ (a : AlarmLine). a.alid) (filter (λ (a : AlarmLine). a.enabled) (drop l.alarm-index l.alarm-items))

@@ -1,6 +1,0 @@
-use Rattle.std.proofs.Common.{arith}
-use Rattle.host_replies.proofs.Few.{few_cancelled}
-use Rattle.host_replies.proofs.jobs.few_cancelled.Goals as goal
-
-pub returns-clause-few : goal.returns-clause-few
-returns-clause-few c = grind (arith, c.len.ensures.few, c.process.ensures.jobs, c.cancelled.ensures, few_cancelled c.args.names.now c.args.jobs.now c.requires)

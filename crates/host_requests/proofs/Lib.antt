@@ -1,4 +1,0 @@
-pub mod Faults
-pub mod Refused
-pub mod Texts
-pub mod SlotMaps

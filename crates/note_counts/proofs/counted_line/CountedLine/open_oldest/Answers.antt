@@ -1,9 +1,0 @@
-use Rattle.std.proofs.Common.{◌≡◌, None, subst, sym}
-use Rattle.note_line.specs.Line.{Line}
-use Rattle.note_counts.proofs.Counting.{counted_oldest}
-use Rattle.note_counts.proofs.counted_line.CountedLine.open_oldest.Goals as goal
-
-pub invariant_of-self : goal.invariant_of-self
-invariant_of-self c =
-    rw c.open_oldest.ensures
-    (counted_oldest c.self.inside.line c.self.inside.answered (subst (λ (l : Line). l.opened ≡ None) (sym c.self.view_is) c.requires) c.self.invariant)

@@ -1,8 +1,10 @@
 //! Floors of the tool that are made by hand, on which the definitions are computed: what the rows of carriers, locations,
 //! substrates and modules do behind a signal of a module or a word of the operator, and what the tool has its modules do next
-//! (after SEMI E87 and E90; this tool's profile, direct rows, settling and moves).
+//! (`worked`; after SEMI E87 and E90; this tool's profile, direct rows, settling and moves); and how a lot of one substrate begins, runs
+//! and ends, and what STOP, ABORT, PAUSE and a start by hand do (`jobs`; after SEMI E40 and E94; tables 14 and 15).
 //!
-//! It has no code. `specs/Worked.antt` makes the floors, and `worked` states what follows on them.
+//! It has no code, and no crate stands on it. `specs/Worked.antt` and `specs/Jobs.antt` make the floors.
 #![tactic(auto)]
 
+pub mod jobs;
 pub mod worked;

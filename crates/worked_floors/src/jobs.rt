@@ -7,7 +7,7 @@ ghost use Rattle.tool_tasks.specs.declared.task.Task.TheVariants as task;
 ghost use Rattle.process_job.specs.declared.record.JobState.TheVariants as process;
 ghost use Rattle.work_laws.specs.Work.{is_work_left, is_any_open};
 ghost use Rattle.worked_floors.specs.Worked.{wafer, own_slot, is_given, in_slot, picking, placing, working, finished_at, returning, back, settling, settled, firings, behind, done, behind_dones};
-ghost use Rattle.worked_jobs.specs.Jobs.{running, ended, is_member, created, at_control, started, paused, resumed, stopped, aborted};
+ghost use Rattle.worked_floors.specs.Jobs.{running, ended, is_member, created, at_control, started, paused, resumed, stopped, aborted};
 
 /// A lot begins: the control job is SELECTED and EXECUTING, the process job is SETTING UP, where it gets its members, and PROCESSING, and
 /// the robot is given a Pick of the substrate. A process job that starts by hand is WAITING FOR START until START.

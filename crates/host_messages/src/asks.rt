@@ -82,7 +82,7 @@ fn svids(seen: &Seen<'_>, alloc: Global) -> Result<Vec<u32>, AllocError>
 
 /// The values of these status variables, or of all where none is named (SEMI E5, S1F4): an empty list for a number that
 /// is none of one that is built.
-#[tactic(auto, using(crate::proofs::Few::few_status))]
+#[tactic(auto, using(crate::proofs::Counted::few_status))]
 pub fn status_values(seen: &Seen<'_>, alloc: Global, ids: &[u32]) -> Result<Items, AllocError>
     ensures values { IfOk result (λ values. values ≡ value_items (status_value seen.now) (or_all (svids seen.now) ids.now)) }
     ensures few { length ids.now ≤ 1024 → AreFew 1024 1 84 (value_items (status_value seen.now) (or_all (svids seen.now) ids.now)) }
@@ -95,7 +95,7 @@ pub fn status_values(seen: &Seen<'_>, alloc: Global, ids: &[u32]) -> Result<Item
 
 /// The values of these equipment constants, or of all where none is named (SEMI E5, S2F14): an empty list for a number
 /// that is none of one.
-#[tactic(auto, using(crate::proofs::Few::few_constants))]
+#[tactic(auto, using(crate::proofs::Counted::few_constants))]
 pub fn constant_values(seen: &Seen<'_>, alloc: Global, ids: &[u32]) -> Result<Items, AllocError>
     ensures values { IfOk result (λ values. values ≡ value_items (constant_value seen.now) (or_all constant_ids ids.now)) }
     ensures few { length ids.now ≤ 1024 → AreFew 1024 1 84 (value_items (constant_value seen.now) (or_all constant_ids ids.now)) }
@@ -127,7 +127,7 @@ fn names_of(seen: &Seen<'_>, alloc: Global, ids: &[u32]) -> Result<Listed<Variab
 }
 
 /// The names of these status variables, or of all where none is named (SEMI E5, S1F12).
-#[tactic(auto, using(crate::proofs::Few::few_status_names))]
+#[tactic(auto, using(crate::proofs::Counted::few_status_names))]
 pub fn status_names(
     seen: &Seen<'_>,
     alloc: Global,
@@ -141,7 +141,7 @@ pub fn status_names(
 }
 
 /// What is told of these equipment constants, or of all where none is named (SEMI E5, S2F30).
-#[tactic(auto, using(crate::proofs::Few::few_names))]
+#[tactic(auto, using(crate::proofs::Counted::few_names))]
 pub fn constant_names(seen: &Seen<'_>, alloc: Global, ids: &[u32]) -> Result<Items, AllocError>
     ensures names { IfOk result (λ names. names ≡ items_data (map name_item (or_all constant_ids ids.now))) }
     ensures few { length ids.now ≤ 1024 → AreFew 1024 1 210 (items_data (map name_item (or_all constant_ids ids.now))) }
@@ -231,7 +231,7 @@ fn enabled_alids(seen: &Seen<'_>, alloc: Global) -> Result<Vec<u32>, AllocError>
 }
 
 /// These alarms, or all where none is named (SEMI E5, S5F6).
-#[tactic(auto, using(crate::proofs::Few::few_alarm_parts))]
+#[tactic(auto, using(crate::proofs::Counted::few_alarm_parts))]
 pub fn alarm_list(
     seen: &Seen<'_>,
     alloc: Global,
@@ -246,7 +246,7 @@ pub fn alarm_list(
 }
 
 /// The enabled alarms (SEMI E5, S5F8).
-#[tactic(auto, using(crate::proofs::Few::few_enabled_parts))]
+#[tactic(auto, using(crate::proofs::Counted::few_enabled_parts))]
 pub fn enabled_alarm_list(seen: &Seen<'_>, alloc: Global) -> Result<Listed<AlarmPart>, AllocError>
     ensures alarms { IfOk result (λ parts. parts ≡ map (alarm_part seen.now) (enabled_alids seen.now)) }
     ensures few { length (map (alarm_part seen.now) (enabled_alids seen.now)) ≤ 1024 }

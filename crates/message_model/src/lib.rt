@@ -2,7 +2,7 @@
 //! printed with, the tables of the host's primaries, what each is read as, what the tool's replies and its own primaries are printed
 //! as, and how much each holds at most. What a message does is left to the crates above, and so are headers and the W-bit.
 //!
-//! The code that reads and writes the bodies is `body_parts`, `gem_primaries`, `gem_replies` and `msgs_300`, which meet these
+//! The code that reads and writes the bodies is `body_parts`, `msgs_gem` and `msgs_300`, which meet these
 //! definitions; they stand apart from it, so that what is said of the tool doesn't wait for it. Begin with `GemMsg` and `GemReply`, of
 //! streams 1, 2, 5, 6 and 9, and `ShopMsg` and `ShopReply`, of streams 3, 14 and 16.
 #![tactic(auto)]

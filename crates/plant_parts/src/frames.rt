@@ -13,7 +13,7 @@ ghost use Rattle.item_model.specs.Plain.{plain, plain_head};
 ghost use Rattle.item_model.specs.Sendable.{IsSendable};
 
 use gem_ids::Text80;
-use gem_replies::gem_item_out;
+use msgs_gem::gem_item_out;
 use hsms_frame::{Bytes, Frame, Header, write_frame, write_header};
 use item_model::{Format, Item};
 use message_model::{GemReply, ShopReply};

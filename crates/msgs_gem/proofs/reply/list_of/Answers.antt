@@ -2,8 +2,8 @@ use Rattle.std.proofs.Common.{◌≡◌, ◌∙◌, subst}
 use Rattle.item_model.specs.Data.{Data, added}
 use Rattle.item_model.specs.View.{view}
 use Rattle.item_model.proofs.Weights.{bounded-added}
-use Rattle.gem_replies.proofs.Printing.{printed_more, printed_bounded}
-use Rattle.gem_replies.proofs.reply.list_of.Goals as goal
+use Rattle.msgs_gem.proofs.Printing.{printed_more, printed_bounded}
+use Rattle.msgs_gem.proofs.reply.list_of.Goals as goal
 
 pub loop-part-preserved : goal.loop-part-preserved
 loop-part-preserved g c =

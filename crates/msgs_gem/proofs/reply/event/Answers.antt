@@ -3,8 +3,8 @@ use Rattle.std.proofs.lemmas.Result.{IfOk-weaker}
 use Rattle.item_model.specs.View.{view}
 use Rattle.item_model.specs.Weight.{IsBounded}
 use Rattle.message_model.specs.GemReplies.{event as event_data}
-use Rattle.gem_replies.proofs.Bounds.{event_bounded}
-use Rattle.gem_replies.proofs.reply.event.Goals as goal
+use Rattle.msgs_gem.proofs.Bounds.{event_bounded}
+use Rattle.msgs_gem.proofs.reply.event.Goals as goal
 
 pub returns-clause-bounded : goal.returns-clause-bounded
 returns-clause-bounded c few =

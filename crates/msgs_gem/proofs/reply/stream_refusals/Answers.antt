@@ -2,8 +2,8 @@ use Rattle.std.proofs.Common.{◌≡◌, ◌∙◌, subst}
 use Rattle.item_model.specs.Data.{Data, added}
 use Rattle.item_model.specs.View.{view}
 use Rattle.message_model.specs.GemReplies.{stream_refusal}
-use Rattle.gem_replies.proofs.Printing.{printed_more}
-use Rattle.gem_replies.proofs.reply.stream_refusals.Goals as goal
+use Rattle.msgs_gem.proofs.Printing.{printed_more}
+use Rattle.msgs_gem.proofs.reply.stream_refusals.Goals as goal
 
 pub loop-refusal-preserved : goal.loop-refusal-preserved
 loop-refusal-preserved c =

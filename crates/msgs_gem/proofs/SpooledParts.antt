@@ -15,7 +15,7 @@ use Rattle.message_model.specs.Functions.{AreFewFunctions}
 use Rattle.message_model.specs.Few.{HasShortText}
 use Rattle.message_model.specs.GemPrimaries.{spooled_stream}
 use Rattle.message_model.specs.declared.gem_primary.SpooledStream.{SpooledStream}
-use Rattle.gem_primaries.proofs.Parts.{count-all_of, few_parts}
+use Rattle.msgs_gem.proofs.Parts.{count-all_of, few_parts}
 
 -- what a text spells has short bodies
 pub short_bodies : (d : Data) → HasShortText d → HasShortBodies d

@@ -1,5 +1,5 @@
-use Rattle.gem_primaries.proofs.Spooling.{few_functions}
-use Rattle.gem_primaries.proofs.primary.spooled_streams.Goals as goal
+use Rattle.msgs_gem.proofs.SpooledParts.{few_functions}
+use Rattle.msgs_gem.proofs.primary.spooled_streams.Goals as goal
 
 pub returns-clause-few : goal.returns-clause-few
 returns-clause-few c short = few_functions _ c.in_ok-list_of.field-0 c.in_ok-list_of.ensures short

@@ -1,7 +1,7 @@
 use Rattle.message_model.specs.Bodies.{named_value}
-use Rattle.gem_primaries.proofs.Parts.{few_parts, second_short}
-use Rattle.gem_primaries.proofs.Spooling.{short_bodies}
-use Rattle.gem_primaries.proofs.primary.remote_command.Goals as goal
+use Rattle.msgs_gem.proofs.Parts.{few_parts, second_short}
+use Rattle.msgs_gem.proofs.SpooledParts.{short_bodies}
+use Rattle.msgs_gem.proofs.primary.remote_command.Goals as goal
 
 pub returns-clause-few : goal.returns-clause-few
 returns-clause-few c short =

@@ -1,3 +1,0 @@
-pub mod Ignoring
-pub mod Parts
-pub mod Spooling

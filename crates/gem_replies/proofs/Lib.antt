@@ -1,4 +1,0 @@
-pub mod Accepting
-pub mod Bounds
-pub mod Printing
-pub mod Spooling

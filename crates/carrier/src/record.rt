@@ -6,6 +6,8 @@ ghost use Rattle.carrier.specs.Tables.{id_table, id_number, map_table, map_numbe
 ghost use Rattle.carrier.specs.Carriers.{is_finished};
 ghost use Rattle.carrier.specs.Record.{first_record, carrier_starts, carrier_fired, is_id_waiting, is_id_failed, is_map_waiting, is_map_verified, is_map_failed, is_not_accessed, is_done};
 
+use gem_tables::Table;
+
 /// The states of a carrier's id: ID NOT READ, WAITING FOR HOST, ID VERIFIED and ID VERIFICATION FAILED.
 #[derive(Clone, Copy)]
 pub enum IdState {
@@ -201,10 +203,10 @@ impl CarrierRecord {
         ensures after { self.new ≡ carrier_fired table row self.old }
         ensures stays { carrier_starts table row self.old ≡ false → self.new ≡ self.old }
     {
-        match table {
-            8 => self.id.fire(row),
-            9 => self.map.fire(row),
-            10 => self.access.fire(row),
+        match Table::of(table) {
+            Some(Table::CarrierId) => self.id.fire(row),
+            Some(Table::SlotMap) => self.map.fire(row),
+            Some(Table::Accessing) => self.access.fire(row),
             _ => false,
         }
     }

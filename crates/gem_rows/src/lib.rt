@@ -7,13 +7,14 @@
 #![tactic(auto)]
 
 mod alarms;
+pub mod ecids;
 mod laws;
 mod names;
 mod rows;
 mod variables;
 
-pub use alarms::{alarm_text, alids};
-pub use gem_tables::RowId;
+pub use alarms::{UNEXPECTED_ANSWER, alarm_text, alids, is_module_alarm, module_alarm, port_alarm};
+pub use gem_tables::{RowId, Table};
 pub use laws::{
     a_row_and_its_ceid_name_each_other, alarms_of_a_plant_rise_and_have_texts, names_are_texts,
     the_list_has_each_ceid_once, the_list_has_each_status_variable_once,

@@ -4,7 +4,7 @@ ghost use Rattle.std.specs.Prelude.{◌≡◌, IfOk};
 ghost use Rattle.gem_rows.specs.Events.{ceid_of, ceids, has_event, is_ceid, row_of};
 
 use gem_ids::Ids;
-use gem_tables::RowId;
+use gem_tables::{RowId, Table};
 use std::alloc::{AllocError, Global};
 
 // The CEIDs, table by table.
@@ -70,17 +70,20 @@ pub fn ceids(alloc: Global) -> Result<Ids, AllocError>
 fn has_event(table: u32, row: u32) -> bool
     ensures { result ≡ has_event table row }
 {
-    match table {
-        2 => 1 <= row && row <= 11,
-        3 => row == 1 || row == 9,
-        4 | 8 => 1 <= row && row <= 5,
-        5 | 11 => 1 <= row && row <= 2,
-        6 | 12 => 1 <= row && row <= 3,
-        7 => 1 <= row && row <= 7,
-        9 | 10 => 1 <= row && row <= 4,
-        13 => 1 <= row && row <= 8,
-        14 => 1 <= row && row <= 18,
-        15 => 1 <= row && row <= 12,
+    if table > 16 {
+        return false;
+    }
+    match Table::of(table as u8) {
+        Some(Table::Control) => 1 <= row && row <= 11,
+        Some(Table::Line) => row == 1 || row == 9,
+        Some(Table::Transfer | Table::CarrierId) => 1 <= row && row <= 5,
+        Some(Table::Access | Table::Location) => 1 <= row && row <= 2,
+        Some(Table::Reservation | Table::Transport) => 1 <= row && row <= 3,
+        Some(Table::Association) => 1 <= row && row <= 7,
+        Some(Table::SlotMap | Table::Accessing) => 1 <= row && row <= 4,
+        Some(Table::Processing) => 1 <= row && row <= 8,
+        Some(Table::ProcessJob) => 1 <= row && row <= 18,
+        Some(Table::ControlJob) => 1 <= row && row <= 12,
         _ => false,
     }
 }

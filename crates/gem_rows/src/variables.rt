@@ -3,6 +3,7 @@
 ghost use Rattle.std.specs.Prelude.{◌≡◌, ◌≤◌};
 ghost use Rattle.gem_rows.specs.Variables.{vid_name, is_vid, status_variable, status_vids};
 
+use crate::ecids;
 use crate::names::{is_behind, name, numbered};
 use gem_ids::Text80;
 
@@ -89,13 +90,13 @@ pub fn vid_name(vid: u32) -> Option<Text80>
         51..=54 => numbered(b"PortCarrier", vid - 50, b""),
         100 => name(b"EventObject"),
         101 => name(b"EventRow"),
-        201 => name(b"EstablishTimeout"),
-        202 => name(b"MaxSpoolTransmit"),
-        203 => name(b"OverWriteSpool"),
-        204 => name(b"T3"),
-        205 => name(b"T7"),
-        206 => name(b"T6"),
-        207 => name(b"LinktestPeriod"),
+        ecids::ESTABLISH_TIMEOUT => name(b"EstablishTimeout"),
+        ecids::MAX_SPOOL_TRANSMIT => name(b"MaxSpoolTransmit"),
+        ecids::OVERWRITE_SPOOL => name(b"OverWriteSpool"),
+        ecids::T3 => name(b"T3"),
+        ecids::T7 => name(b"T7"),
+        ecids::T6 => name(b"T6"),
+        ecids::LINKTEST_PERIOD => name(b"LinktestPeriod"),
         _ => None,
     }
 }
@@ -108,5 +109,6 @@ pub fn is_vid(ports: u8, chambers: u8, vid: u32) -> bool
         || is_behind(30, ports, vid)
         || is_behind(40, ports, vid)
         || is_behind(50, ports, vid)
-        || matches!(vid, 1..=10 | 12 | 13 | 100 | 101 | 201..=207)
+        || matches!(vid, 1..=10 | 12 | 13 | 100 | 101)
+        || matches!(vid, ecids::ESTABLISH_TIMEOUT..=ecids::LINKTEST_PERIOD)
 }

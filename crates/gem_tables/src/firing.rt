@@ -1,7 +1,10 @@
 //! Rows of the tables, and their firings.
 
-ghost use Rattle.std.specs.Prelude.{◌≡◌};
+ghost use Rattle.std.specs.Prelude.{◌≡◌, ◌==◌, IsTrue};
 ghost use Rattle.gem_tables.specs.Table.{firing};
+ghost use Rattle.gem_tables.specs.Names.{table_number};
+
+use crate::table::Table;
 
 /// A row of a transition table, by the numbers of both.
 #[derive(Clone, Copy, Default)]
@@ -18,8 +21,38 @@ pub struct Firing {
     pub object: u64,
 }
 
+impl RowId {
+    /// A row of a table.
+    pub fn new(table: Table, row: u8) -> RowId
+        ensures { result ≡ record { table = table_number table; row = row } }
+    {
+        RowId {
+            table: table.number(),
+            row,
+        }
+    }
+
+    /// Whether it is a row of this table.
+    pub fn is_of(&self, table: Table) -> bool
+        ensures value { result ≡ (self.now.table == table_number table) }
+        ensures same { IsTrue result → self.now.table ≡ table_number table }
+    {
+        self.table == table.number()
+    }
+}
+
 impl Firing {
     /// A row of a table at an object.
+    pub fn of(table: Table, object: u64, row: u8) -> Firing
+        ensures { result ≡ firing (table_number table) object row }
+    {
+        Firing {
+            row: RowId::new(table, row),
+            object,
+        }
+    }
+
+    /// A row of the table of a number at an object.
     pub fn new(table: u8, object: u64, row: u8) -> Firing
         ensures { result ≡ firing table object row }
     {

@@ -1,6 +1,6 @@
 //! The words that all transition tables of the tool share, and rows and firings as code hands them about. No state of the tool
-//! stands here, and no table: each stands with the record of its states. Begin with `specs/Table.antt`, rows as tables print
-//! them, and `specs/Machine.antt`, tables at work.
+//! stands here, and of the tables their names alone: each stands with the record of its states. Begin with `specs/Table.antt`, rows
+//! as tables print them, and `specs/Machine.antt`, tables at work.
 //!
 //! # Theory of operation
 //!
@@ -26,5 +26,7 @@
 #![tactic(auto)]
 
 mod firing;
+mod table;
 
 pub use firing::{Firing, RowId};
+pub use table::Table;

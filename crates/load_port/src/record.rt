@@ -5,6 +5,8 @@ ghost use Rattle.gem_tables.specs.Table.{starts, after};
 ghost use Rattle.load_port.specs.Tables.{transfer_table, transfer_number, access_table, access_number, reservation_table, reservation_number, association_table, association_number};
 ghost use Rattle.load_port.specs.Record.{first_record, port_starts, port_fired, is_occupied, is_in_service, is_reserved};
 
+use gem_tables::Table;
+
 /// The transfer states: OUT OF SERVICE, TRANSFER BLOCKED, READY TO LOAD and READY TO UNLOAD.
 #[derive(Clone, Copy)]
 pub enum Transfer {
@@ -198,11 +200,11 @@ impl PortRecord {
         ensures after { self.new ≡ port_fired table row self.old }
         ensures stays { port_starts table row self.old ≡ false → self.new ≡ self.old }
     {
-        match table {
-            4 => self.transfer.fire(row),
-            5 => self.access.fire(row),
-            6 => self.reservation.fire(row),
-            7 => self.association.fire(row),
+        match Table::of(table) {
+            Some(Table::Transfer) => self.transfer.fire(row),
+            Some(Table::Access) => self.access.fire(row),
+            Some(Table::Reservation) => self.reservation.fire(row),
+            Some(Table::Association) => self.association.fire(row),
             _ => false,
         }
     }

@@ -6,6 +6,8 @@ ghost use Rattle.gem_tables.specs.Table.{starts, after};
 ghost use Rattle.substrate.specs.Tables.{occupancy_table, occupancy_number, transport_table, transport_number, processing_table, processing_number};
 ghost use Rattle.substrate.specs.Record.{first_location, first_record, location_starts, location_fired, substrate_starts, substrate_fired, is_at_source, is_needing, is_in_process, is_finished};
 
+use gem_tables::Table;
+
 /// The states of a location: UNOCCUPIED and OCCUPIED.
 #[derive(Clone, Copy)]
 pub enum Occupancy {
@@ -200,9 +202,9 @@ impl SubstrateRecord {
         ensures after { self.new ≡ substrate_fired table row self.old }
         ensures stays { substrate_starts table row self.old ≡ false → self.new ≡ self.old }
     {
-        match table {
-            12 => self.transport.fire(row),
-            13 => self.processing.fire(row),
+        match Table::of(table) {
+            Some(Table::Transport) => self.transport.fire(row),
+            Some(Table::Processing) => self.processing.fire(row),
             _ => false,
         }
     }

@@ -8,7 +8,7 @@ ghost use Rattle.data_variables.specs.Table.{constant, constant_ids, constant_of
 
 use crate::val::Val;
 use gem_ids::Text80;
-use gem_rows::vid_name;
+use gem_rows::{ecids, vid_name};
 
 /// An equipment constant, as its line of the table says: the least value, the most and the default are of one kind.
 #[derive(Clone, Copy)]
@@ -25,7 +25,7 @@ pub struct Constant {
 pub fn ids() -> [u32; 7]
     ensures { result ≡ constant_ids }
 {
-    [201, 202, 203, 204, 205, 206, 207]
+    ecids::ALL
 }
 
 // The line of an ECID. `None` exactly where there is no such constant.
@@ -33,13 +33,13 @@ pub(crate) fn constant_of(ecid: u32) -> Option<Constant>
     ensures { result ≡ constant_of ecid }
 {
     let line = match ecid {
-        201 => number(201, 1, 60_000, 1000, b"cs"),
-        202 => number(202, 0, 65_536, 0, b""),
-        203 => truth(203),
-        204 => number(204, 100, 12_000, 4500, b"cs"),
-        205 => number(205, 100, 12_000, 1000, b"cs"),
-        206 => number(206, 100, 12_000, 500, b"cs"),
-        207 => number(207, 0, 60_000, 0, b"cs"),
+        ecids::ESTABLISH_TIMEOUT => number(ecid, 1, 60_000, 1000, b"cs"),
+        ecids::MAX_SPOOL_TRANSMIT => number(ecid, 0, 65_536, 0, b""),
+        ecids::OVERWRITE_SPOOL => truth(ecid),
+        ecids::T3 => number(ecid, 100, 12_000, 4500, b"cs"),
+        ecids::T7 => number(ecid, 100, 12_000, 1000, b"cs"),
+        ecids::T6 => number(ecid, 100, 12_000, 500, b"cs"),
+        ecids::LINKTEST_PERIOD => number(ecid, 0, 60_000, 0, b"cs"),
         _ => return None,
     };
     Some(line)

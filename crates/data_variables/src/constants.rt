@@ -11,13 +11,14 @@ ghost use Rattle.data_variables.specs.Bodies.{namelist_of};
 use crate::bodies::namelist_item;
 use crate::constant::constant_of;
 use crate::val::Val;
+use gem_rows::ecids;
 use indexmap::IndexMap;
 use item_model::{Item, NoMemory};
 use std::alloc::Global;
 use std::marker::Model;
 
 // The least ECID.
-const FIRST: u32 = 201;
+const FIRST: u32 = ecids::ESTABLISH_TIMEOUT;
 
 /// The equipment constants with their values, which contracts see as pairs of ECID and value in the printed order. Each
 /// value is of its constant's kind and in its range.

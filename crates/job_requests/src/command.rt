@@ -6,7 +6,7 @@ ghost use Rattle.request_model.specs.Requests.{command_named, command_error, com
 
 use crate::names::{process_id, process_named};
 use gem_ids::Text80;
-use gem_tables::Firing;
+use gem_tables::{Firing, Table};
 use process_job::ProcessJobs;
 use request_model::JobError;
 use tool_jobs::Jobs;
@@ -75,7 +75,7 @@ pub fn command_row(job: Text80, word: JobWord, jobs: &Jobs) -> Option<Firing>
     ensures { option_to_list result ≡ command_rows job word jobs.now }
 {
     match process_named(jobs.process(), job) {
-        Some(job) => Some(Firing::new(14, job.number, row_of(word))),
+        Some(job) => Some(Firing::of(Table::ProcessJob, job.number, row_of(word))),
         None => None,
     }
 }

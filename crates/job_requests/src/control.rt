@@ -17,7 +17,7 @@ use crate::names::{is_job_name, is_there, job_name, process_id};
 use crate::once::is_each_once;
 use control_job::CtlFault;
 use gem_ids::{JobId, Listed, Text80};
-use gem_tables::Firing;
+use gem_tables::{Firing, Table};
 use message_model::NamedValue;
 use request_model::{ControlRequest, JobError};
 use std::alloc::{AllocError, Global};
@@ -175,7 +175,7 @@ pub fn control_row(jobs: &Jobs) -> Option<Firing>
 {
     let control = jobs.control();
     match control.at(control.len().saturating_sub(1)) {
-        Some(job) => Some(Firing::new(15, job.number, 1)),
+        Some(job) => Some(Firing::of(Table::ControlJob, job.number, 1)),
         None => None,
     }
 }

@@ -12,7 +12,7 @@ ghost use Rattle.request_model.specs.Requests.{is_job_name, material_of, asked_p
 
 use crate::names::{is_job_name, is_there, job_name};
 use gem_ids::{Listed, Text80};
-use gem_tables::Firing;
+use gem_tables::{Firing, Table};
 use item_model::Item;
 use message_model::CarrierSlots;
 use process_job::{JobSpec, MOST_JOBS, Material, Materials, ProcessJobs};
@@ -192,7 +192,7 @@ pub fn process_row(jobs: &Jobs) -> Option<Firing>
 {
     let process = jobs.process();
     match process.get(process.len().saturating_sub(1)) {
-        Some(job) => Some(Firing::new(14, job.number, 1)),
+        Some(job) => Some(Firing::of(Table::ProcessJob, job.number, 1)),
         None => None,
     }
 }

@@ -9,7 +9,7 @@ ghost use Rattle.request_model.specs.Requests.{is_control_command, control_comma
 use crate::names::{control_id, control_named};
 use control_job::{ControlJobs, CtlAct};
 use gem_ids::Text80;
-use gem_tables::Firing;
+use gem_tables::{Firing, Table};
 use request_model::{JobError, QueueAct};
 use tool_jobs::Jobs;
 
@@ -68,7 +68,7 @@ fn row_at(job: Text80, row: u8, control: &ControlJobs) -> Option<QueueAct>
     ensures { result ≡ row_at row (control_named job control.now.jobs) }
 {
     match control_named(control, job) {
-        Some(job) => Some(QueueAct::Fires(Firing::new(15, job.number, row))),
+        Some(job) => Some(QueueAct::Fires(Firing::of(Table::ControlJob, job.number, row))),
         None => None,
     }
 }

@@ -18,7 +18,7 @@ use crate::{naming, requests, rows};
 use arrayvec::ArrayVec;
 use carrier::{Carrier, CarrierAction, Carriers};
 use gem_ids::{CarrierId, PortNo, Text80};
-use gem_tables::Firing;
+use gem_tables::{Firing, Table};
 use load_port::{Arrival, Caack, Port, PortAction, Ports, Transfer};
 use std::alloc::{AllocError, Global};
 use std::marker::Model;
@@ -159,9 +159,13 @@ impl ShopFloor {
     pub fn object_name(&self, x: Firing) -> Text80
         ensures { result ≡ object_name x self.now }
     {
-        match x.row.table {
-            4 | 5 | 6 | 7 => naming::port_name(x.object, &self.ports),
-            8 | 9 | 10 => naming::carrier_name(x.object, &self.carriers),
+        match Table::of(x.row.table) {
+            Some(Table::Transfer | Table::Access | Table::Reservation | Table::Association) => {
+                naming::port_name(x.object, &self.ports)
+            }
+            Some(Table::CarrierId | Table::SlotMap | Table::Accessing) => {
+                naming::carrier_name(x.object, &self.carriers)
+            }
             _ => Text80::empty(),
         }
     }
@@ -174,19 +178,19 @@ impl ShopFloor {
     pub fn least(&self) -> Option<Firing>
         ensures { result ≡ floor_least self.now }
     {
-        if let Some(x) = self.ready_port(4) {
+        if let Some(x) = self.ready_port(Table::Transfer) {
             return Some(x);
         }
-        if let Some(x) = self.ready_port(6) {
+        if let Some(x) = self.ready_port(Table::Reservation) {
             return Some(x);
         }
-        if let Some(x) = self.ready_port(7) {
+        if let Some(x) = self.ready_port(Table::Association) {
             return Some(x);
         }
-        if let Some(x) = self.ready_carrier(8) {
+        if let Some(x) = self.ready_carrier(Table::CarrierId) {
             return Some(x);
         }
-        self.ready_carrier(9)
+        self.ready_carrier(Table::SlotMap)
     }
 
     /// Whether a row starts: its object is there, in a state in which the row starts, and what the row wants besides is so (this
@@ -195,9 +199,11 @@ impl ShopFloor {
     pub fn starts(&self, x: Firing) -> bool
         ensures { result ≡ floor_starts x self.now }
     {
-        match x.row.table {
-            4 | 5 | 6 | 7 => self.starts_at_port(x),
-            8 | 9 | 10 => self.starts_at_carrier(x),
+        match Table::of(x.row.table) {
+            Some(Table::Transfer | Table::Access | Table::Reservation | Table::Association) => {
+                self.starts_at_port(x)
+            }
+            Some(Table::CarrierId | Table::SlotMap | Table::Accessing) => self.starts_at_carrier(x),
             _ => false,
         }
     }
@@ -232,7 +238,7 @@ impl ShopFloor {
     pub fn fire_accessing(&mut self, carrier: u64, row: u8)
         ensures { self.new ≡ floor_fired (firing 10 carrier row) self.old }
     {
-        self.carriers.fire(carrier, 10, row);
+        self.carriers.fire(carrier, Table::Accessing.number(), row);
     }
 
     // ---- what the host asks

@@ -6,6 +6,7 @@ ghost use Rattle.carrier.specs.Tables.{id_number, id_table, map_number, map_tabl
 ghost use Rattle.carrier.specs.Wants.{carrier_wants, is_verified};
 ghost use Rattle.carrier.specs.Record.{carrier_starts};
 ghost use Rattle.carrier.specs.Carriers.{carrier_numbered};
+ghost use Rattle.gem_tables.specs.Names.{table_number};
 ghost use Rattle.gem_tables.specs.Table.{first_itself, row_of, wants_found, is_one_of};
 ghost use Rattle.gem_tables.specs.Machine.{first_ready, ready_in};
 ghost use Rattle.shop_floor.specs.Floor.{Floor, numbers_from, number_of};
@@ -16,7 +17,7 @@ use crate::asking::{directed, has_finished, is_elsewhere, is_own, port_no};
 use crate::floor::ShopFloor;
 use carrier::{Carrier, CarrierRecord, Carriers, IdState, MapState};
 use gem_ids::PortNo;
-use gem_tables::{Firing, RowId};
+use gem_tables::{Firing, RowId, Table};
 use load_port::{Association, Port, Transfer};
 
 // ---- what a row wants
@@ -28,14 +29,14 @@ fn port_wants(row: RowId, number: PortNo, port: &Port, carriers: &Carriers) -> b
     ensures reservation { row.table ≡ 6 → result ≡ wants_found (λ want. port_wants want number.0 port.now carriers.now) (row_of reservation_table row.row) }
     ensures association { row.table ≡ 7 → result ≡ wants_found (λ want. port_wants want number.0 port.now carriers.now) (row_of association_table row.row) }
 {
-    match (row.table, row.row) {
-        (4, 4) => has_finished(number, carriers),
-        (6, 3) => port.states.transfer.is_occupied(),
-        (7, 1) => directed(number, carriers).is_some(),
-        (7, 3) => port.arrival.is_some(),
-        (7, 4) => port.arrival.is_some() && !is_own(port),
-        (7, 5) => is_own(port),
-        (7, 7) => is_elsewhere(number, port, carriers),
+    match (Table::of(row.table), row.row) {
+        (Some(Table::Transfer), 4) => has_finished(number, carriers),
+        (Some(Table::Reservation), 3) => port.states.transfer.is_occupied(),
+        (Some(Table::Association), 1) => directed(number, carriers).is_some(),
+        (Some(Table::Association), 3) => port.arrival.is_some(),
+        (Some(Table::Association), 4) => port.arrival.is_some() && !is_own(port),
+        (Some(Table::Association), 5) => is_own(port),
+        (Some(Table::Association), 7) => is_elsewhere(number, port, carriers),
         _ => true,
     }
 }
@@ -124,14 +125,13 @@ fn is_verified(carrier: &Carrier) -> bool
 }
 
 // The row of table 8 or 9 that is ready at a carrier.
-fn carrier_row(table: u8, carrier: &Carrier) -> Option<u8>
-    requires { is_one_of (8 ∷ 9 ∷ []) table ≡ true }
-    ensures { (f : Floor) → carrier_numbered carrier.now.number f.carriers ≡ Some carrier.now → result ≡ ready_in floor_machines table carrier.now.number f }
+fn carrier_row(table: Table, carrier: &Carrier) -> Option<u8>
+    requires { is_one_of (8 ∷ 9 ∷ []) (table_number table) ≡ true }
+    ensures { (f : Floor) → carrier_numbered carrier.now.number f.carriers ≡ Some carrier.now → result ≡ ready_in floor_machines (table_number table) carrier.now.number f }
 {
-    if table == 8 {
-        id_row(carrier)
-    } else {
-        map_row(carrier)
+    match table {
+        Table::CarrierId => id_row(carrier),
+        _ => map_row(carrier),
     }
 }
 
@@ -141,13 +141,15 @@ fn carrier_wants(row: RowId, carrier: &Carrier) -> bool
     ensures map { row.table ≡ 9 → result ≡ wants_found (λ want. carrier_wants want carrier.now) (row_of map_table row.row) }
     ensures accessing { row.table ≡ 10 → result ≡ wants_found (λ want. carrier_wants want carrier.now) (row_of accessing_table row.row) }
 {
-    match (row.table, row.row) {
-        (8, 2) => carrier.present && carrier.bound && carrier.is_read,
-        (8, 3) => carrier.present,
-        (9, 1) => is_verified(carrier) && carrier.is_usable() && carrier.is_host_map(),
-        (9, 2) => is_verified(carrier),
+    match (Table::of(row.table), row.row) {
+        (Some(Table::CarrierId), 2) => carrier.present && carrier.bound && carrier.is_read,
+        (Some(Table::CarrierId), 3) => carrier.present,
+        (Some(Table::SlotMap), 1) => {
+            is_verified(carrier) && carrier.is_usable() && carrier.is_host_map()
+        }
+        (Some(Table::SlotMap), 2) => is_verified(carrier),
         // what they want of substrates and process jobs is told above
-        (10, 1 | 2 | 3) => false,
+        (Some(Table::Accessing), 1 | 2 | 3) => false,
         _ => true,
     }
 }
@@ -156,7 +158,7 @@ fn carrier_wants(row: RowId, carrier: &Carrier) -> bool
 fn starts_or_creates(row: RowId, mut states: CarrierRecord) -> bool
     ensures { result ≡ (((row.table == 8) && (row.row == 1)) || carrier_starts row.table row.row states) }
 {
-    (row.table == 8 && row.row == 1) || states.fire(row.table, row.row)
+    (row.is_of(Table::CarrierId) && row.row == 1) || states.fire(row.table, row.row)
 }
 
 // ---- the floor
@@ -192,16 +194,16 @@ impl ShopFloor {
     }
 
     // The row of table 4, 6 or 7 that is ready at the port of this number.
-    fn port_row(&self, table: u8, number: u64) -> Option<u8>
-        requires { is_one_of (4 ∷ 6 ∷ 7 ∷ []) table ≡ true }
-        ensures { result ≡ ready_in floor_machines table number self.now }
+    fn port_row(&self, table: Table, number: u64) -> Option<u8>
+        requires { is_one_of (4 ∷ 6 ∷ 7 ∷ []) (table_number table) ≡ true }
+        ensures { result ≡ ready_in floor_machines (table_number table) number self.now }
     {
         match self.ports.numbered(number) {
             Some(port) => {
                 let number = port_no(number);
                 match table {
-                    4 => transfer_row(number, port, &self.carriers),
-                    6 => reservation_row(number, port, &self.carriers),
+                    Table::Transfer => transfer_row(number, port, &self.carriers),
+                    Table::Reservation => reservation_row(number, port, &self.carriers),
                     _ => association_row(number, port, &self.carriers),
                 }
             }
@@ -210,28 +212,28 @@ impl ShopFloor {
     }
 
     // The row of table 4, 6 or 7 that is ready at the first port at which one is.
-    pub(crate) fn ready_port(&self, table: u8) -> Option<Firing>
-        requires { is_one_of (4 ∷ 6 ∷ 7 ∷ []) table ≡ true }
-        ensures { result ≡ first_ready table (λ port. ready_in floor_machines table port self.now) (numbers_from 1 self.now.ports) }
+    pub(crate) fn ready_port(&self, table: Table) -> Option<Firing>
+        requires { is_one_of (4 ∷ 6 ∷ 7 ∷ []) (table_number table) ≡ true }
+        ensures { result ≡ first_ready (table_number table) (λ port. ready_in floor_machines (table_number table) port self.now) (numbers_from 1 self.now.ports) }
     {
         for place in 0..self.port_count() {
             let number = place as u64 + 1;
             if let Some(row) = self.port_row(table, number) {
-                return Some(Firing::new(table, number, row));
+                return Some(Firing::of(table, number, row));
             }
         }
         None
     }
 
     // The row of table 8 or 9 that is ready at the first carrier at which one is.
-    pub(crate) fn ready_carrier(&self, table: u8) -> Option<Firing>
-        requires { is_one_of (8 ∷ 9 ∷ []) table ≡ true }
-        ensures { result ≡ first_ready table (λ carrier. ready_in floor_machines table carrier self.now) (map number_of self.now.carriers) }
+    pub(crate) fn ready_carrier(&self, table: Table) -> Option<Firing>
+        requires { is_one_of (8 ∷ 9 ∷ []) (table_number table) ≡ true }
+        ensures { result ≡ first_ready (table_number table) (λ carrier. ready_in floor_machines (table_number table) carrier self.now) (map number_of self.now.carriers) }
     {
         for place in 0..self.carrier_count() {
             if let Some(carrier) = self.carrier(place) {
                 if let Some(row) = carrier_row(table, carrier) {
-                    return Some(Firing::new(table, carrier.number, row));
+                    return Some(Firing::of(table, carrier.number, row));
                 }
             }
         }

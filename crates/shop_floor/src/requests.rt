@@ -1,6 +1,7 @@
 //! What the host asks of a carrier (SEMI E87, S3F17; this tool's profile, S3F17 and direct rows).
 
 ghost use Rattle.std.specs.Prelude.{◌≡◌, ℕ, suc, ◌+◌, ◌≤◌, false, [], ◌∷◌, ◌++◌, List, length, option_to_list, Some, IfOk, IfErr};
+ghost use Rattle.gem_tables.specs.Names.{table_number};
 ghost use Rattle.gem_tables.specs.Table.{firing};
 ghost use Rattle.load_port.specs.declared.port.Port.{Port};
 ghost use Rattle.carrier.specs.declared.action.CarrierWord.TheVariants.{Bind, Notify};
@@ -12,7 +13,7 @@ use crate::rows::{create, find_or_create};
 use arrayvec::ArrayVec;
 use carrier::{Carrier, CarrierAction, CarrierWord, Carriers};
 use gem_ids::{CarrierId, PortNo, Text80};
-use gem_tables::Firing;
+use gem_tables::{Firing, Table};
 use std::alloc::AllocError;
 
 // ---- what is written
@@ -82,8 +83,8 @@ pub(crate) fn carrier_rows(a: &CarrierAction, carriers: &Carriers, next: u64) ->
     match a.word {
         CarrierWord::Bind => listed(
             creation_of(a.id, carriers, next),
-            Some(at_port(6, 1, a.port)),
-            Some(at_port(7, 1, a.port)),
+            Some(at_port(Table::Reservation, 1, a.port)),
+            Some(at_port(Table::Association, 1, a.port)),
         ),
         CarrierWord::CancelBind => unbinding(port_number_of(a.id, carriers)),
         CarrierWord::Proceed => listed(None, None, proceeding(a.id, carriers)),
@@ -115,10 +116,10 @@ fn listed(
 }
 
 // A row of a table at the port of this number.
-fn at_port(table: u8, row: u8, port: u8) -> Firing
-    ensures { result ≡ firing table port row }
+fn at_port(table: Table, row: u8, port: u8) -> Firing
+    ensures { result ≡ firing (table_number table) port row }
 {
-    Firing::new(table, port as u64, row)
+    Firing::of(table, port as u64, row)
 }
 
 // The row that creates the carrier of a name with this number, where it isn't known.
@@ -128,7 +129,7 @@ fn creation_of(name: Text80, carriers: &Carriers, next: u64) -> Option<Firing>
     if carriers.is_known(name) {
         return None;
     }
-    Some(Firing::new(8, next, 1))
+    Some(Firing::of(Table::CarrierId, next, 1))
 }
 
 // The number of the port of the carrier of a name, 0 for none.
@@ -155,7 +156,11 @@ fn port_or_none(port: Option<PortNo>) -> u8
 fn unbinding(port: u8) -> ArrayVec<Firing, 3>
     ensures { result.items ≡ unbinding port }
 {
-    listed(None, Some(at_port(6, 2, port)), Some(at_port(7, 2, port)))
+    listed(
+        None,
+        Some(at_port(Table::Reservation, 2, port)),
+        Some(at_port(Table::Association, 2, port)),
+    )
 }
 
 // The row of the carrier of a name that proceeds.
@@ -173,9 +178,9 @@ fn proceeding_row(carrier: &Carrier) -> Firing
     ensures { result ∷ [] ≡ proceeding (Some carrier.now) }
 {
     if carrier.states.id.is_waiting() {
-        Firing::new(8, carrier.number, 4)
+        Firing::of(Table::CarrierId, carrier.number, 4)
     } else {
-        Firing::new(9, carrier.number, 3)
+        Firing::of(Table::SlotMap, carrier.number, 3)
     }
 }
 
@@ -194,10 +199,10 @@ fn cancelling_row(carrier: &Carrier) -> Firing
     ensures { result ∷ [] ≡ cancelling (Some carrier.now) }
 {
     if carrier.states.id.is_waiting() {
-        Firing::new(8, carrier.number, 5)
+        Firing::of(Table::CarrierId, carrier.number, 5)
     } else if carrier.states.map.is_waiting() {
-        Firing::new(9, carrier.number, 4)
+        Firing::of(Table::SlotMap, carrier.number, 4)
     } else {
-        Firing::new(10, carrier.number, 4)
+        Firing::of(Table::Accessing, carrier.number, 4)
     }
 }

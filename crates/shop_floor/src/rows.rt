@@ -15,7 +15,7 @@ use crate::asking::{arrival_at, directed, is_new_at, owner_at, port_no};
 use arrayvec::ArrayVec;
 use carrier::Carriers;
 use gem_ids::CarrierId;
-use gem_tables::Firing;
+use gem_tables::{Firing, Table};
 use load_port::Ports;
 use std::alloc::AllocError;
 
@@ -187,8 +187,11 @@ pub(crate) fn creations(
     ensures { result.items ≡ creation_rows x (floor_of ports.now carriers.now next) }
 {
     let mut rows = ArrayVec::new();
-    if x.row.table == 7 && is_arrival_row(x.row.row) && is_new_at(x.object, ports, carriers) {
-        rows.push(Firing::new(8, next, 1));
+    if x.row.is_of(Table::Association)
+        && is_arrival_row(x.row.row)
+        && is_new_at(x.object, ports, carriers)
+    {
+        rows.push(Firing::of(Table::CarrierId, next, 1));
     }
     rows
 }
@@ -232,12 +235,12 @@ pub(crate) fn fire(
     if lacks_number(x, ports, carriers, *next) {
         return Err(AllocError);
     }
-    if x.row.table == 7 {
+    if x.row.is_of(Table::Association) {
         match associate(x.row.row, x.object, ports, carriers, next) {
             Ok(()) => {}
             Err(_) => unreachable!(),
         }
-        ports.fire(x.object, 7, x.row.row);
+        ports.fire(x.object, x.row.table, x.row.row);
     } else if is_of_port(x.row.table) {
         ports.fire(x.object, x.row.table, x.row.row);
     } else if is_of_carrier(x.row.table) {
@@ -250,12 +253,18 @@ pub(crate) fn fire(
 fn is_of_port(table: u8) -> bool
     ensures { result ≡ is_one_of (4 ∷ 5 ∷ 6 ∷ 7 ∷ []) table }
 {
-    4 <= table && table <= 7
+    matches!(
+        Table::of(table),
+        Some(Table::Transfer | Table::Access | Table::Reservation | Table::Association)
+    )
 }
 
 // Whether it is a table of the carriers.
 fn is_of_carrier(table: u8) -> bool
     ensures { result ≡ is_one_of (8 ∷ 9 ∷ 10 ∷ []) table }
 {
-    8 <= table && table <= 10
+    matches!(
+        Table::of(table),
+        Some(Table::CarrierId | Table::SlotMap | Table::Accessing)
+    )
 }

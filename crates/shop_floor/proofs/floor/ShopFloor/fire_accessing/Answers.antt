@@ -8,5 +8,6 @@ use Rattle.shop_floor.proofs.floor.ShopFloor.fire_accessing.Goals as goal
 
 pub invariant_of-self : goal.invariant_of-self
 invariant_of-self c =
-    subst (λ (cs : List Carrier). IsFloor (floor_of c.self.inside.ports cs c.self.inside.next_carrier)) (sym c.fire.ensures.after)
+    let after = rw c.number.ensures at c.fire.ensures.after in
+    subst (λ (cs : List Carrier). IsFloor (floor_of c.self.inside.ports cs c.self.inside.next_carrier)) (sym after)
     (accessing-keeps (kept_floor c.self.inside) c.args.carrier c.args.row c.self.invariant)

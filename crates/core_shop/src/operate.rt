@@ -2,6 +2,7 @@
 
 ghost use Rattle.std.specs.Prelude.{◌≡◌, OnOk, IfOk, if◌then◌else◌};
 ghost use Rattle.std.specs.Option.{option_to_list};
+ghost use Rattle.gem_tables.specs.Names.{table_number};
 ghost use Rattle.gem_tables.specs.Table.{firing};
 ghost use Rattle.gem_model.specs.State.{is_up};
 ghost use Rattle.gem_model.specs.Fire.{fires};
@@ -15,25 +16,18 @@ ghost use Rattle.tool_events.specs.declared.event.OperCmd.TheVariants as oper;
 
 use crate::clock::end_for;
 use crate::reaction::Reaction;
-use crate::signals::module_alarm;
 use arrayvec::ArrayVec;
 use core_state::Plant;
 use gem_ids::{JobId, ModuleId, PortNo};
+use gem_rows::{is_module_alarm, module_alarm};
 use gem_states::{CommTrigger, ControlTrigger};
-use gem_tables::Firing;
+use gem_tables::{Firing, Table};
 use job_requests::{command_row, control_command};
 use plant_parts::by_comm;
 use request_model::QueueAct;
 use std::alloc::{AllocError, Global};
 use tool_events::{Answer, OperCmd, SessionCause};
 use tool_tasks::JobWord;
-
-// The numbers of the tables of a port's transfer and access and of moves, as the definitions have them.
-const TRANSFER: u8 = 4;
-
-const ACCESS: u8 = 5;
-
-const MOVES: u8 = 16;
 
 // One row, or none.
 fn one(row: Option<Firing>) -> ArrayVec<Firing, 3>
@@ -47,10 +41,10 @@ fn one(row: Option<Firing>) -> ArrayVec<Firing, 3>
 }
 
 // A row of a table at a port: the first, or the second.
-fn at_port(table: u8, first: bool, port: PortNo) -> Firing
-    ensures { result ≡ firing table port.0 (if first then 1 else 2) }
+fn at_port(table: Table, first: bool, port: PortNo) -> Firing
+    ensures { result ≡ firing (table_number table) port.0 (if first then 1 else 2) }
 {
-    Firing::new(table, u64::from(port.0), if first { 1 } else { 2 })
+    Firing::of(table, u64::from(port.0), if first { 1 } else { 2 })
 }
 
 /// The row of a command to a process job, which is that of the host's S16F5 (SEMI E40; table 14).
@@ -86,9 +80,9 @@ fn operator_rows(plant: &Plant, command: &OperCmd) -> ArrayVec<Firing, 3>
         OperCmd::Offline => one(Some(plant.by_control(ControlTrigger::Offline))),
         OperCmd::Local => one(Some(plant.by_control(ControlTrigger::Local))),
         OperCmd::Remote => one(Some(plant.by_control(ControlTrigger::Remote))),
-        OperCmd::Service(port, on) => one(Some(at_port(TRANSFER, *on, *port))),
-        OperCmd::Access(port, auto) => one(Some(at_port(ACCESS, *auto, *port))),
-        OperCmd::Up(m) => one(Some(Firing::new(MOVES, u64::from(m.0), 10))),
+        OperCmd::Service(port, on) => one(Some(at_port(Table::Transfer, *on, *port))),
+        OperCmd::Access(port, auto) => one(Some(at_port(Table::Access, *auto, *port))),
+        OperCmd::Up(m) => one(Some(Firing::of(Table::Moves, u64::from(m.0), 10))),
         OperCmd::Lost(sub) => one(plant.lost_row(*sub)),
         OperCmd::Job(job, word) => job_rows(plant, *job, *word),
         OperCmd::CtlJob(job, cmd) => control_job_rows(plant, *job, *cmd),
@@ -111,7 +105,7 @@ fn can_fire(plant: &Plant, rows: &[Firing]) -> bool
 fn can_clear(plant: &Plant, alid: u32) -> bool
     ensures { result ≡ can_clear alid plant.now }
 {
-    plant.is_alarm_set(alid) && !(10 < alid && alid <= 20)
+    plant.is_alarm_set(alid) && !is_module_alarm(alid)
 }
 
 /// Whether a command to a control job can be done (SEMI E94, S16F27).

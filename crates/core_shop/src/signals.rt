@@ -1,6 +1,7 @@
 //! What the equipment tells of the load ports (SEMI E87) and of the modules (this tool's profile, moves).
 
 ghost use Rattle.std.specs.Prelude.{◌≡◌, OnOk, true, false};
+ghost use Rattle.gem_tables.specs.Names.{table_number};
 ghost use Rattle.gem_tables.specs.Table.{firing};
 ghost use Rattle.shop_floor.specs.Requests.{at_port, removal};
 ghost use Rattle.gem_model.specs.Fire.{fire_listed};
@@ -11,43 +12,30 @@ ghost use Rattle.gem_model.specs.Signals.{lacks_port, port_row_starts, port_alar
 
 use core_state::Plant;
 use gem_ids::{CarrierId, CmdNo, ModuleId, PortNo};
-use gem_tables::Firing;
+use gem_rows::{UNEXPECTED_ANSWER, module_alarm, port_alarm};
+use gem_tables::{Firing, Table};
 use std::alloc::{AllocError, Global};
 use tool_events::Signal;
 
-// The alarm of a carrier signal that a port doesn't expect, which is that of the port behind this number.
-const UNEXPECTED: u32 = 30;
-
-// The alarm of an answer to a command that isn't open.
-const UNEXPECTED_ANSWER: u32 = 50;
-
-// The alarm of a module that is down, which is that of the module behind this number.
-const MODULE_DOWN: u32 = 10;
-
-// The numbers of the tables, as the definitions have them.
-const TRANSFER: u8 = 4;
-
-const ASSOCIATION: u8 = 7;
-
 // A row of a table at a port.
-fn at_port(table: u8, row: u8, port: PortNo) -> Firing
-    ensures { result ≡ firing table port.0 row }
+fn at_port(table: Table, row: u8, port: PortNo) -> Firing
+    ensures { result ≡ firing (table_number table) port.0 row }
 {
-    Firing::new(table, u64::from(port.0), row)
+    Firing::of(table, u64::from(port.0), row)
 }
 
 /// Whether a row of a port's transfer starts there.
 fn transfer_starts(plant: &Plant, row: u8, port: PortNo) -> bool
     ensures { result ≡ port_row_starts row port.0 plant.now }
 {
-    plant.row_starts(at_port(TRANSFER, row, port))
+    plant.row_starts(at_port(Table::Transfer, row, port))
 }
 
 /// A port doesn't expect what is told of it: its alarm is set.
 fn unexpected(plant: &mut Plant, alloc: Global, port: PortNo) -> Result<(), AllocError>
     ensures { OnOk result (plant.new ≡ sets_alarm (port_alarm port.0) plant.old) }
 {
-    plant.set_alarm(alloc, UNEXPECTED + u32::from(port.0))
+    plant.set_alarm(alloc, port_alarm(port))
 }
 
 /// What came to a port that the tool has, which is READY TO LOAD, is written, and its row fires.
@@ -62,7 +50,7 @@ fn place_there(
     ensures { OnOk result (plant.new ≡ fire_listed (at_port 4 3 port.0) (with_arrival port.0 id map plant.old)) }
 {
     plant.write_arrival(port, id, map);
-    plant.fire_listed(alloc, &[at_port(TRANSFER, 3, port)])?;
+    plant.fire_listed(alloc, &[at_port(Table::Transfer, 3, port)])?;
     Ok(())
 }
 
@@ -90,7 +78,10 @@ fn remove_there(plant: &mut Plant, alloc: Global, port: PortNo) -> Result<(), Al
 {
     plant.fire_listed(
         alloc,
-        &[at_port(TRANSFER, 5, port), at_port(ASSOCIATION, 6, port)],
+        &[
+            at_port(Table::Transfer, 5, port),
+            at_port(Table::Association, 6, port),
+        ],
     )?;
     Ok(())
 }
@@ -125,13 +116,6 @@ fn done(plant: &mut Plant, alloc: Global, m: ModuleId, n: CmdNo) -> Result<(), A
         return plant.set_alarm(alloc, UNEXPECTED_ANSWER);
     }
     finish(plant, alloc, m)
-}
-
-/// The alarm of a module that is down.
-pub(crate) fn module_alarm(m: ModuleId) -> u32
-    ensures { result ≡ module_alarm m.0 }
-{
-    MODULE_DOWN + u32::from(m.0)
 }
 
 /// The alarm of a module is set, and then it goes down by this row of the table of moves, 8 or 9.

@@ -7,18 +7,15 @@ ghost use Rattle.tool_events.specs.declared.event.OperCmd.TheVariants as oper;
 use crate::plant::Plant;
 use arrayvec::ArrayVec;
 use gem_states::{CommTrigger, ControlTrigger};
-use gem_tables::Firing;
+use gem_tables::{Firing, Table};
 use plant_parts::{by_comm, note_fails};
-
-// The number of the table, as the definitions have it.
-const CONTROL: u8 = 2;
 
 impl Plant {
     /// The row of control that a trigger fires, by the operator's switch.
     pub fn by_control(&self, trigger: ControlTrigger) -> Firing
         ensures { by_control trigger self.now ≡ result ∷ [] }
     {
-        Firing::new(CONTROL, 0, trigger.row(self.switch_local))
+        Firing::of(Table::Control, 0, trigger.row(self.switch_local))
     }
 
     /// The row of the tool's S1F1, which fails where it is open.

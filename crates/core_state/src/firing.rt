@@ -14,19 +14,17 @@ ghost use Rattle.history_parts.specs.Additions.{completes};
 ghost use Rattle.core_state.specs.Firing.{fire_first, AreCreated};
 
 use crate::plant::Plant;
-use gem_tables::Firing;
+use gem_tables::{Firing, Table};
 use std::alloc::{AllocError, Global};
 
-// The numbers of the row by which a control job is COMPLETED, as the definitions have them.
-const CONTROL_JOB: u8 = 15;
-
+// The row of the table of control jobs by which one is COMPLETED.
 const NONE_LEFT: u8 = 8;
 
 /// Whether a row is the one by which a control job is COMPLETED.
 fn completes(f: Firing) -> bool
     ensures { result ≡ completes f }
 {
-    f.row.table == CONTROL_JOB && f.row.row == NONE_LEFT
+    f.row.is_of(Table::ControlJob) && f.row.row == NONE_LEFT
 }
 
 impl Plant {
@@ -66,10 +64,10 @@ impl Plant {
         requires { IsListed f }
         ensures { result ≡ row_starts self.now f }
     {
-        match f.row.table {
-            1 => self.comm_starts(f.row.row),
-            2 => self.control_starts(f.row.row),
-            3 => self.line_starts(f.row.row),
+        match Table::of(f.row.table) {
+            Some(Table::Communication) => self.comm_starts(f.row.row),
+            Some(Table::Control) => self.control_starts(f.row.row),
+            Some(Table::Line) => self.line_starts(f.row.row),
             _ => self.floor.floor().starts(f),
         }
     }
@@ -101,15 +99,15 @@ impl Plant {
         ensures fired { OnOk result (self.new ≡ fire self.old f) }
         ensures created { IfOk result (λ rows. rows.items ≡ creations self.old f) }
     {
-        if f.row.table == 1 {
+        if f.row.is_of(Table::Communication) {
             self.comm_row(alloc, f.row.row)?;
             return Ok(Vec::new(alloc));
         }
-        if f.row.table == 2 {
+        if f.row.is_of(Table::Control) {
             self.control_row(alloc, f.row.row)?;
             return Ok(Vec::new(alloc));
         }
-        if f.row.table == 3 {
+        if f.row.is_of(Table::Line) {
             self.line_direct(f.row.row);
             return Ok(Vec::new(alloc));
         }

@@ -10,15 +10,9 @@ ghost use Rattle.gem_model.specs.Step.{linked};
 
 use crate::plant::Plant;
 use gem_ids::Moment;
+use gem_rows::ecids;
 use hsms_frame::Header;
 use hsms_link::{LinkAct, LinkDue, LinkTimes};
-
-// The constants that are times of the link, by their ECIDs.
-const T7: u32 = 205;
-
-const T6: u32 = 206;
-
-const LINKTEST_PERIOD: u32 = 207;
 
 impl Plant {
     /// The times of the link.
@@ -26,9 +20,9 @@ impl Plant {
         ensures { result ≡ link_times self.now }
     {
         LinkTimes {
-            t6: self.constants.number(T6),
-            t7: self.constants.number(T7),
-            period: self.constants.number(LINKTEST_PERIOD),
+            t6: self.constants.number(ecids::T6),
+            t7: self.constants.number(ecids::T7),
+            period: self.constants.number(ecids::LINKTEST_PERIOD),
         }
     }
 

@@ -10,12 +10,10 @@ ghost use Rattle.gem_model.specs.Fire.{fire};
 
 use crate::noting::RowFiring;
 use crate::plant::Plant;
+use gem_tables::Table;
 use note_line::{Around, Fate, NoteLine, SpooledKinds};
 use spool::Load;
 use std::alloc::{AllocError, Global};
-
-// The number of the table, as the definitions have it.
-const LINE: u8 = 3;
 
 impl Plant {
     /// The line of notes, with its spool.
@@ -42,7 +40,7 @@ impl Plant {
     {
         let online_before = self.is_online();
         self.spool_row(row);
-        self.note(alloc, RowFiring::unnamed(LINE, row, online_before))?;
+        self.note(alloc, RowFiring::unnamed(Table::Line, row, online_before))?;
         Ok(())
     }
 

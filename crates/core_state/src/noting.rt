@@ -1,5 +1,6 @@
 //! The notes that firings and changes of alarms make (SEMI E30, event reports and alarms).
 ghost use Rattle.std.specs.Prelude.{◌≡◌, ◌≤◌, ◌+◌, ◌*◌, [], length, OnOk, IfOk, Some};
+ghost use Rattle.gem_tables.specs.Names.{table_number};
 ghost use Rattle.item_model.specs.Plain.{plain};
 ghost use Rattle.message_model.specs.declared.gem_reply.GemReply.TheVariants as reply;
 ghost use Rattle.message_model.specs.GemReplies.{reply_body};
@@ -15,6 +16,7 @@ use crate::plant::Plant;
 use gem_ids::Text80;
 use gem_rows::{RowId, ceid_of};
 use gem_states::Comm;
+use gem_tables::Table;
 use hsms_frame::Bytes;
 use message_model::GemReply;
 use note_line::Kind;
@@ -31,11 +33,11 @@ pub struct RowFiring {
 
 impl RowFiring {
     /// A row of a table whose one object has no name.
-    pub fn unnamed(table: u8, row: u8, online_before: bool) -> RowFiring
-        ensures { result ≡ record { row = record { table = table; row = row }; object = []; online_before = online_before } }
+    pub fn unnamed(table: Table, row: u8, online_before: bool) -> RowFiring
+        ensures { result ≡ record { row = record { table = table_number table; row = row }; object = []; online_before = online_before } }
     {
         RowFiring {
-            row: RowId { table, row },
+            row: RowId::new(table, row),
             object: Text80::empty(),
             online_before,
         }

@@ -17,40 +17,58 @@ use tool_events::Config;
 use tool_floor::ToolFloor;
 use transactions::Transactions;
 
+/// The transactions that are open, and the equipment constants.
+#[derive(Drop)]
+pub(crate) struct Settings {
+    pub(crate) transactions: Transactions,
+    pub(crate) constants: Constants,
+}
+
+/// What the host is told of: reports and alarms.
+#[derive(Drop)]
+pub(crate) struct Told {
+    pub(crate) reports: Reports,
+    pub(crate) alarms: Alarms,
+}
+
+/// The line of notes, and the floor.
+#[derive(Drop)]
+pub(crate) struct Kept {
+    pub(crate) line: CountedLine,
+    pub(crate) floor: ToolFloor,
+}
+
 /// No transaction, and the equipment constants.
-pub(crate) fn first_settings(
-    alloc: Global,
-    config: &Config,
-) -> Result<(Transactions, Constants), AllocError>
+pub(crate) fn first_settings(alloc: Global, config: &Config) -> Result<Settings, AllocError>
     requires { IsConfig config.now }
-    ensures { IfOk result (λ first. (first.0 ≡ none_open) × (first.1 ≡ first_constants config.now)) }
+    ensures { IfOk result (λ first. (first.transactions ≡ none_open) × (first.constants ≡ first_constants config.now)) }
 {
     let transactions = Transactions::new(alloc)?;
     let constants = first_constants(alloc, config)?;
-    Ok((transactions, constants))
+    Ok(Settings {
+        transactions,
+        constants,
+    })
 }
 
 /// No report, and no alarm.
-pub(crate) fn first_told(alloc: Global, config: &Config) -> Result<(Reports, Alarms), AllocError>
+pub(crate) fn first_told(alloc: Global, config: &Config) -> Result<Told, AllocError>
     requires { IsConfig config.now }
-    ensures { IfOk result (λ first. (first.0 ≡ no_reports config.now.ports config.now.chambers) × (first.1 ≡ no_alarms config.now.ports config.now.chambers)) }
+    ensures { IfOk result (λ first. (first.reports ≡ no_reports config.now.ports config.now.chambers) × (first.alarms ≡ no_alarms config.now.ports config.now.chambers)) }
 {
     let reports = Reports::new(alloc, config.ports, config.chambers)?;
     let alarms = Alarms::new(alloc, config.ports, config.chambers)?;
-    Ok((reports, alarms))
+    Ok(Told { reports, alarms })
 }
 
 /// A line without a note, and the floor.
-pub(crate) fn first_kept(
-    alloc: Global,
-    config: &Config,
-) -> Result<(CountedLine, ToolFloor), AllocError>
+pub(crate) fn first_kept(alloc: Global, config: &Config) -> Result<Kept, AllocError>
     requires { IsConfig config.now }
-    ensures { IfOk result (λ first. (first.0 ≡ notes.opening config.now.spool_capacity (first_kinds config.now.spool_streams)) × (first.1 ≡ floors.opening config.now.ports config.now.chambers config.now.recipes)) }
+    ensures { IfOk result (λ first. (first.line ≡ notes.opening config.now.spool_capacity (first_kinds config.now.spool_streams)) × (first.floor ≡ floors.opening config.now.ports config.now.chambers config.now.recipes)) }
 {
     let kinds = first_kinds(config.spool_streams);
     let line = CountedLine::new(alloc, config.spool_capacity, kinds)?;
     let recipes = config.recipes.as_slice();
     let floor = ToolFloor::new(alloc, config.ports, config.chambers, recipes)?;
-    Ok((line, floor))
+    Ok(Kept { line, floor })
 }

@@ -10,10 +10,11 @@ ghost use Rattle.transactions.specs.Table.{none_open};
 ghost use Rattle.gem_model.specs.State.{opening, first_comm, first_control, first_switch, first_constants, first_kinds, around, is_communicating, is_online, is_up, is_session_up, is_selected, can_ask, raised, with_frame};
 ghost use Rattle.gem_model.specs.Messages.{clock_set};
 
-use crate::opening::{first_kept, first_settings, first_told};
+use crate::opening::{Kept, Settings, Told, first_kept, first_settings, first_told};
 use data_variables::Constants;
 use event_reports::{Alarms, Reports};
 use gem_ids::Moment;
+use gem_rows::ecids;
 use gem_states::{Comm, Control};
 use hsms_frame::Bytes;
 use hsms_link::{LinkState, Phase, Ping};
@@ -25,13 +26,8 @@ use std::alloc::{AllocError, Global};
 use std::collections::VecDeque;
 use std::marker::Model;
 use tool_events::Config;
-use tool_floor::{RestingFloor, ToolFloor};
+use tool_floor::RestingFloor;
 use transactions::Transactions;
-
-// The ECIDs of how many spooled notes are sent at the host's request, and of what a full spool drops.
-const MAX_SPOOL_TRANSMIT: u32 = 202;
-
-const OVERWRITE_SPOOL: u32 = 203;
 
 /// What the tool is. Contracts see it as the state of the tables.
 pub struct Plant {
@@ -122,25 +118,22 @@ impl Plant {
     }
 
     // The plant of its parts.
-    fn of(
-        alloc: Global,
-        config: &Config,
-        settings: (Transactions, Constants),
-        told: (Reports, Alarms),
-        kept: (CountedLine, ToolFloor),
-    ) -> Plant
+    fn of(alloc: Global, config: &Config, settings: Settings, told: Told, kept: Kept) -> Plant
         requires config { IsConfig config.now }
-        requires transactions { settings.0 ≡ none_open }
-        requires constants { settings.1 ≡ first_constants config.now }
-        requires reports { told.0 ≡ no_reports config.now.ports config.now.chambers }
-        requires alarms { told.1 ≡ no_alarms config.now.ports config.now.chambers }
-        requires line { kept.0 ≡ notes.opening config.now.spool_capacity (first_kinds config.now.spool_streams) }
-        requires floor { kept.1 ≡ floors.opening config.now.ports config.now.chambers config.now.recipes }
+        requires transactions { settings.transactions ≡ none_open }
+        requires constants { settings.constants ≡ first_constants config.now }
+        requires reports { told.reports ≡ no_reports config.now.ports config.now.chambers }
+        requires alarms { told.alarms ≡ no_alarms config.now.ports config.now.chambers }
+        requires line { kept.line ≡ notes.opening config.now.spool_capacity (first_kinds config.now.spool_streams) }
+        requires floor { kept.floor ≡ floors.opening config.now.ports config.now.chambers config.now.recipes }
         ensures { result ≡ opening config.now }
     {
-        let (transactions, constants) = settings;
-        let (reports, alarms) = told;
-        let (line, floor) = kept;
+        let Settings {
+            transactions,
+            constants,
+        } = settings;
+        let Told { reports, alarms } = told;
+        let Kept { line, floor } = kept;
         Plant {
             config: *config,
             moment: config.start_moment,
@@ -184,24 +177,24 @@ impl Plant {
     pub fn seen(&self) -> Seen<'_>
         ensures { result ≡ self.now }
     {
-        Seen::of(
-            &self.config,
-            self.moment,
-            self.shown,
-            self.shown_at,
-            self.quitting,
-            &self.link,
-            self.comm,
-            self.control,
-            self.switch_local,
-            &self.transactions,
-            &self.constants,
-            &self.reports,
-            &self.alarms,
-            &self.line,
-            self.floor.floor().parts(),
-            &self.waiting,
-        )
+        Seen {
+            config: &self.config,
+            moment: self.moment,
+            shown: self.shown,
+            shown_at: self.shown_at,
+            quitting: self.quitting,
+            link: &self.link,
+            comm: self.comm,
+            control: self.control,
+            switch_local: self.switch_local,
+            transactions: &self.transactions,
+            constants: &self.constants,
+            reports: &self.reports,
+            alarms: &self.alarms,
+            line: &self.line,
+            floor: self.floor.floor().parts(),
+            waiting: &self.waiting,
+        }
     }
 
     /// Whether the operator ended the run.
@@ -288,8 +281,8 @@ impl Plant {
     {
         Around {
             communicates: self.is_communicating(),
-            overwrites: self.constants.truth(OVERWRITE_SPOOL),
-            most_sent: self.constants.number(MAX_SPOOL_TRANSMIT),
+            overwrites: self.constants.truth(ecids::OVERWRITE_SPOOL),
+            most_sent: self.constants.number(ecids::MAX_SPOOL_TRANSMIT),
         }
     }
 

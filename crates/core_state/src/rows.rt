@@ -11,19 +11,13 @@ ghost use Rattle.gem_model.specs.Act.{session_ended};
 use crate::noting::RowFiring;
 use crate::plant::Plant;
 use gem_ids::Moment;
+use gem_rows::ecids;
 use gem_states::Comm;
+use gem_tables::Table;
 use hsms_frame::Bytes;
 use plant_parts::identity_text;
 use std::alloc::{AllocError, Global};
 use transactions::What;
-
-// The ECID of the time that the tool waits before it asks for communication again.
-const ESTABLISH_TIMEOUT: u32 = 201;
-
-// The numbers of the tables, as the definitions have them.
-const COMMUNICATION: u8 = 1;
-
-const CONTROL: u8 = 2;
 
 impl Plant {
     /// What a row of communication does besides its state.
@@ -47,7 +41,7 @@ impl Plant {
         ensures { OnOk result (self.new ≡ fire_comm row self.old) }
     {
         let until = if row == 5 {
-            self.moment.0 + u64::from(self.constants.number(ESTABLISH_TIMEOUT))
+            self.moment.0 + u64::from(self.constants.number(ecids::ESTABLISH_TIMEOUT))
         } else {
             0
         };
@@ -85,7 +79,10 @@ impl Plant {
     {
         let online_before = self.is_online();
         self.fire_comm(alloc, row)?;
-        self.note(alloc, RowFiring::unnamed(COMMUNICATION, row, online_before))
+        self.note(
+            alloc,
+            RowFiring::unnamed(Table::Communication, row, online_before),
+        )
     }
 
     /// A row of control fires, and makes its note. `AllocError`: memory ran out.
@@ -95,7 +92,10 @@ impl Plant {
     {
         let online_before = self.is_online();
         self.fire_control(alloc, row)?;
-        self.note(alloc, RowFiring::unnamed(CONTROL, row, online_before))
+        self.note(
+            alloc,
+            RowFiring::unnamed(Table::Control, row, online_before),
+        )
     }
 
     /// The session ends: the link is down, the frames that wait are gone, every transaction has failed, and the direct

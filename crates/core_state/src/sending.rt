@@ -9,13 +9,11 @@ ghost use Rattle.gem_model.specs.Due.{asks_linktest};
 ghost use Rattle.hsms_link.specs.Links.{is_selected, is_open};
 
 use crate::plant::Plant;
+use gem_rows::ecids;
 use hsms_frame::{Bytes, Header};
 use plant_parts::{data_frame, data_header, header_frame, stream9_text};
 use std::alloc::{AllocError, Global};
 use transactions::What;
-
-// The ECID of T3.
-const T3: u32 = 204;
 
 impl Plant {
     /// Draws the next system bytes.
@@ -79,7 +77,7 @@ impl Plant {
         ensures system { result ≡ (if is_full self.old.transactions then None else Some (drawn self.old.transactions)) }
         ensures after { self.new ≡ record self.old { transactions = after_start stream function (self.old.moment + t3 self.old) what self.old.transactions } }
     {
-        let deadline = self.moment.0 + u64::from(self.constants.number(T3));
+        let deadline = self.moment.0 + u64::from(self.constants.number(ecids::T3));
         self.transactions
             .start(stream, function, deadline, what)
             .ok()

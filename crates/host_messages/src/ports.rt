@@ -7,16 +7,11 @@ ghost use Rattle.shop_floor.specs.Requests.{carrier_rows, port_rows, at_ports, m
 use crate::rows::Rows;
 use arrayvec::ArrayVec;
 use carrier::CarrierAction;
-use gem_tables::Firing;
+use gem_tables::{Firing, Table};
 use load_port::PortAction;
 use plant_parts::{at_ports, mode_row};
 use shop_floor::ShopFloor;
 use std::alloc::{AllocError, Global};
-
-// The numbers of the tables, as the definitions have them.
-const ACCESS: u8 = 5;
-
-const RESERVATION: u8 = 6;
 
 /// The direct rows of an action on a carrier that is accepted. `AllocError`: there is no memory for those behind the first.
 pub fn accepted_carrier_rows(
@@ -57,9 +52,9 @@ fn access_rows(
 {
     if ports.is_empty() {
         let numbers = port_numbers(shop);
-        at_ports(alloc, ACCESS, mode_row(mode), numbers.as_slice())
+        at_ports(alloc, Table::Access, mode_row(mode), numbers.as_slice())
     } else {
-        at_ports(alloc, ACCESS, mode_row(mode), ports)
+        at_ports(alloc, Table::Access, mode_row(mode), ports)
     }
 }
 
@@ -72,8 +67,8 @@ fn listed_rows(
     ensures { IfOk result (λ rows. rows.items ≡ port_rows action.now shop.now) }
 {
     match action {
-        PortAction::Reserve(port) => at_ports(alloc, RESERVATION, 1, &[*port]),
-        PortAction::CancelReserve(port) => at_ports(alloc, RESERVATION, 2, &[*port]),
+        PortAction::Reserve(port) => at_ports(alloc, Table::Reservation, 1, &[*port]),
+        PortAction::CancelReserve(port) => at_ports(alloc, Table::Reservation, 2, &[*port]),
         PortAction::Access(mode, ports) => access_rows(shop, alloc, *mode, ports.as_slice()),
         PortAction::Unknown => Ok(Vec::new(alloc)),
     }

@@ -1,26 +1,28 @@
 //! Collection events in words: the table and the row of a CEID, and what happened (this tool's profile, docs/profile/events.md).
 
 use crate::remarks::Remarks;
-use gem_rows::row_of;
+use gem_rows::{Table, row_of};
 use std::alloc::{AllocError, Global};
 
 // What a transition table is of.
-fn table_name(table: u8) -> &'static str {
+fn table_name(table: Table) -> &'static str {
     match table {
-        2 => "control",
-        3 => "spool",
-        4 => "port transfer",
-        5 => "port access",
-        6 => "port reservation",
-        7 => "port association",
-        8 => "carrier id",
-        9 => "slot map",
-        10 => "carrier accessing",
-        11 => "location",
-        12 => "substrate transport",
-        13 => "substrate processing",
-        14 => "process job",
-        _ => "control job",
+        Table::Communication => "communication",
+        Table::Control => "control",
+        Table::Line => "spool",
+        Table::Transfer => "port transfer",
+        Table::Access => "port access",
+        Table::Reservation => "port reservation",
+        Table::Association => "port association",
+        Table::CarrierId => "carrier id",
+        Table::SlotMap => "slot map",
+        Table::Accessing => "carrier accessing",
+        Table::Location => "location",
+        Table::Transport => "substrate transport",
+        Table::Processing => "substrate processing",
+        Table::ProcessJob => "process job",
+        Table::ControlJob => "control job",
+        Table::Moves => "moves",
     }
 }
 
@@ -49,17 +51,17 @@ fn spool_row(row: u8) -> &'static str {
 }
 
 // What a row of tables 4 to 7 does.
-fn port_row(table: u8, row: u8) -> &'static str {
+fn port_row(table: Table, row: u8) -> &'static str {
     match (table, row) {
-        (4, 1) => "OUT OF SERVICE to READY TO LOAD",
-        (4, 2) => "READY TO LOAD to OUT OF SERVICE",
-        (4, 3) => "READY TO LOAD to TRANSFER BLOCKED",
-        (4, 4) => "TRANSFER BLOCKED to READY TO UNLOAD",
-        (4, _) => "READY TO UNLOAD to READY TO LOAD",
-        (5, 1) => "MANUAL to AUTO",
-        (5, _) => "AUTO to MANUAL",
-        (6, 1) => "NOT RESERVED to RESERVED",
-        (6, _) => "RESERVED to NOT RESERVED",
+        (Table::Transfer, 1) => "OUT OF SERVICE to READY TO LOAD",
+        (Table::Transfer, 2) => "READY TO LOAD to OUT OF SERVICE",
+        (Table::Transfer, 3) => "READY TO LOAD to TRANSFER BLOCKED",
+        (Table::Transfer, 4) => "TRANSFER BLOCKED to READY TO UNLOAD",
+        (Table::Transfer, _) => "READY TO UNLOAD to READY TO LOAD",
+        (Table::Access, 1) => "MANUAL to AUTO",
+        (Table::Access, _) => "AUTO to MANUAL",
+        (Table::Reservation, 1) => "NOT RESERVED to RESERVED",
+        (Table::Reservation, _) => "RESERVED to NOT RESERVED",
         (_, 1 | 3) => "NOT ASSOCIATED to ASSOCIATED",
         (_, 4) => "ASSOCIATED, another carrier than the bound one came",
         (_, 5) => "ASSOCIATED, the bound carrier came",
@@ -68,17 +70,17 @@ fn port_row(table: u8, row: u8) -> &'static str {
 }
 
 // What a row of tables 8 to 10 does.
-fn carrier_row(table: u8, row: u8) -> &'static str {
+fn carrier_row(table: Table, row: u8) -> &'static str {
     match (table, row) {
-        (8, 1) => "created: ID NOT READ",
-        (8, 2) => "ID NOT READ to ID VERIFIED",
-        (8, 3) => "ID NOT READ to WAITING FOR HOST",
-        (8, 4) => "WAITING FOR HOST to ID VERIFIED",
-        (8, _) => "WAITING FOR HOST to ID VERIFICATION FAILED",
-        (9, 1) => "NOT READ to VERIFIED",
-        (9, 2) => "NOT READ to WAITING FOR HOST",
-        (9, 3) => "WAITING FOR HOST to VERIFIED",
-        (9, _) => "WAITING FOR HOST to VERIFICATION FAILED",
+        (Table::CarrierId, 1) => "created: ID NOT READ",
+        (Table::CarrierId, 2) => "ID NOT READ to ID VERIFIED",
+        (Table::CarrierId, 3) => "ID NOT READ to WAITING FOR HOST",
+        (Table::CarrierId, 4) => "WAITING FOR HOST to ID VERIFIED",
+        (Table::CarrierId, _) => "WAITING FOR HOST to ID VERIFICATION FAILED",
+        (Table::SlotMap, 1) => "NOT READ to VERIFIED",
+        (Table::SlotMap, 2) => "NOT READ to WAITING FOR HOST",
+        (Table::SlotMap, 3) => "WAITING FOR HOST to VERIFIED",
+        (Table::SlotMap, _) => "WAITING FOR HOST to VERIFICATION FAILED",
         (_, 1) => "NOT ACCESSED to IN ACCESS",
         (_, 2) => "IN ACCESS to CARRIER COMPLETE",
         (_, 3) => "IN ACCESS to CARRIER STOPPED",
@@ -87,13 +89,13 @@ fn carrier_row(table: u8, row: u8) -> &'static str {
 }
 
 // What a row of tables 11 to 13 does.
-fn substrate_row(table: u8, row: u8) -> &'static str {
+fn substrate_row(table: Table, row: u8) -> &'static str {
     match (table, row) {
-        (11, 1) => "UNOCCUPIED to OCCUPIED",
-        (11, _) => "OCCUPIED to UNOCCUPIED",
-        (12, 1) => "registered: AT SOURCE",
-        (12, 2) => "AT SOURCE to AT WORK",
-        (12, _) => "AT WORK to AT DESTINATION",
+        (Table::Location, 1) => "UNOCCUPIED to OCCUPIED",
+        (Table::Location, _) => "OCCUPIED to UNOCCUPIED",
+        (Table::Transport, 1) => "registered: AT SOURCE",
+        (Table::Transport, 2) => "AT SOURCE to AT WORK",
+        (Table::Transport, _) => "AT WORK to AT DESTINATION",
         (_, 1) => "registered: NEEDS PROCESSING",
         (_, 2) => "NEEDS PROCESSING to IN PROCESS",
         (_, 3) => "IN PROCESS to PROCESSED",
@@ -145,29 +147,37 @@ fn control_job_row(row: u8) -> &'static str {
 }
 
 // What a row does that has an event.
-fn row_text(table: u8, row: u8) -> &'static str {
+fn row_text(table: Table, row: u8) -> &'static str {
     match table {
-        2 => control_row(row),
-        3 => spool_row(row),
-        4..=7 => port_row(table, row),
-        8..=10 => carrier_row(table, row),
-        11..=13 => substrate_row(table, row),
-        14 => process_job_row(row),
+        Table::Control => control_row(row),
+        Table::Line => spool_row(row),
+        Table::Transfer | Table::Access | Table::Reservation | Table::Association => {
+            port_row(table, row)
+        }
+        Table::CarrierId | Table::SlotMap | Table::Accessing => carrier_row(table, row),
+        Table::Location | Table::Transport | Table::Processing => substrate_row(table, row),
+        Table::ProcessJob => process_job_row(row),
         _ => control_job_row(row),
     }
 }
 
 /// Goes on with a row of a table that has an event: `table 9 row 3, slot map WAITING FOR HOST to VERIFIED`.
-fn add_row(alloc: Global, table: u8, row: u8, out: &mut Remarks) -> Result<(), AllocError> {
-    let (name, text) = (table_name(table), row_text(table, row));
-    let words = format!(in alloc; "table {table} row {row}, {name} {text}")?;
+fn add_row(alloc: Global, table: Table, row: u8, out: &mut Remarks) -> Result<(), AllocError> {
+    let (number, name, text) = (table.number(), table_name(table), row_text(table, row));
+    let words = format!(in alloc; "table {number} row {row}, {name} {text}")?;
     out.add(words.as_str())
+}
+
+// The table and the row whose event a CEID is.
+fn row_named(ceid: u32) -> Option<(Table, u8)> {
+    let id = row_of(ceid)?;
+    Some((Table::of(id.table)?, id.row))
 }
 
 /// Goes on with the row whose event a CEID is, or tells that it is none.
 pub(crate) fn add_row_of(alloc: Global, ceid: u32, out: &mut Remarks) -> Result<(), AllocError> {
-    match row_of(ceid) {
-        Some(id) => add_row(alloc, id.table, id.row, out),
+    match row_named(ceid) {
+        Some((table, row)) => add_row(alloc, table, row, out),
         None => out.add("no event of this tool"),
     }
 }

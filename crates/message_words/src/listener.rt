@@ -14,6 +14,7 @@ use crate::settings::{
 };
 use crate::titles::title;
 use crate::values::{Plant, add_variables};
+use gem_rows::ecids;
 use hsms_frame::{Frame, Header};
 use item_model::{Item, ItemFault};
 use std::alloc::{AllocError, Global};
@@ -42,9 +43,6 @@ pub struct Listener {
     requests: Requests,
     note: Option<Note>,
 }
-
-// The equipment constants, as S2F13 means them by an empty list.
-const CONSTANTS: [u32; 7] = [201, 202, 203, 204, 205, 206, 207];
 
 // The stream and the function of a data message.
 fn stream_and_function(header: Header) -> (u8, u8) {
@@ -200,7 +198,7 @@ impl Listener {
         item: &Item,
         out: &mut Remarks,
     ) -> Result<(), AllocError> {
-        let all = Vec::from_slice(alloc, &CONSTANTS)?;
+        let all = Vec::from_slice(alloc, &ecids::ALL)?;
         self.ask_variables(alloc, header, item, all, out)
     }
 

@@ -5,6 +5,7 @@ ghost use Rattle.tool_events.specs.Configs.{IsConfig};
 ghost use Rattle.gem_model.specs.State.{first_comm, first_control, first_switch, first_constants, first_kinds};
 
 use data_variables::{Constants, Val};
+use gem_rows::ecids;
 use gem_states::{Comm, Control};
 use note_line::SpooledKinds;
 use std::alloc::{AllocError, Global};
@@ -58,13 +59,13 @@ pub fn first_constants(alloc: Global, config: &Config) -> Result<Constants, Allo
     Constants::new(
         alloc,
         &[
-            (201, Val::Number(config.establish)),
-            (202, Val::Number(config.max_transmit)),
-            (203, Val::Truth(config.overwrite)),
-            (204, Val::Number(config.t3)),
-            (205, Val::Number(config.t7)),
-            (206, Val::Number(config.t6)),
-            (207, Val::Number(config.linktest)),
+            (ecids::ESTABLISH_TIMEOUT, Val::Number(config.establish)),
+            (ecids::MAX_SPOOL_TRANSMIT, Val::Number(config.max_transmit)),
+            (ecids::OVERWRITE_SPOOL, Val::Truth(config.overwrite)),
+            (ecids::T3, Val::Number(config.t3)),
+            (ecids::T7, Val::Number(config.t7)),
+            (ecids::T6, Val::Number(config.t6)),
+            (ecids::LINKTEST_PERIOD, Val::Number(config.linktest)),
         ],
     )
 }

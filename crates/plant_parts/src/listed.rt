@@ -1,38 +1,34 @@
 //! The rows that inputs list (this tool's profile, direct rows).
 
 ghost use Rattle.std.specs.Prelude.{◌≡◌, ◌∷◌, [], IfOk};
+ghost use Rattle.gem_tables.specs.Names.{table_number};
 ghost use Rattle.gem_model.specs.Direct.{by_comm, note_fails};
 ghost use Rattle.gem_model.specs.Spooling.{unload_rows};
 ghost use Rattle.shop_floor.specs.Requests.{at_ports, mode_row};
 
 use gem_states::CommTrigger;
-use gem_tables::Firing;
+use gem_tables::{Firing, Table};
 use std::alloc::{AllocError, Global};
-
-// The numbers of the tables, as the definitions have them.
-const COMMUNICATION: u8 = 1;
-
-const LINE: u8 = 3;
 
 /// The row of communication that a trigger fires.
 pub fn by_comm(trigger: CommTrigger) -> Firing
     ensures { by_comm trigger ≡ result ∷ [] }
 {
-    Firing::new(COMMUNICATION, 0, trigger.row())
+    Firing::of(Table::Communication, 0, trigger.row())
 }
 
 /// The row by which the transaction of the open note fails.
 pub fn note_fails() -> Firing
     ensures { note_fails ≡ result ∷ [] }
 {
-    Firing::new(LINE, 0, 14)
+    Firing::of(Table::Line, 0, 14)
 }
 
 /// The row of RSDC: 0 lets the spooled notes be sent, and any other drops them (SEMI E5, S6F23).
 pub fn unload_row(rsdc: u8) -> Firing
     ensures { unload_rows rsdc ≡ result ∷ [] }
 {
-    Firing::new(LINE, 0, if rsdc == 0 { 4 } else { 5 })
+    Firing::of(Table::Line, 0, if rsdc == 0 { 4 } else { 5 })
 }
 
 /// The row of an access mode: 1 to AUTO, and 2 to MANUAL.
@@ -43,12 +39,17 @@ pub fn mode_row(mode: u8) -> u8
 }
 
 /// A row of a table at each of these ports.
-pub fn at_ports(alloc: Global, table: u8, row: u8, ports: &[u8]) -> Result<Vec<Firing>, AllocError>
-    ensures { IfOk result (λ rows. rows.items ≡ at_ports table row ports.now) }
+pub fn at_ports(
+    alloc: Global,
+    table: Table,
+    row: u8,
+    ports: &[u8],
+) -> Result<Vec<Firing>, AllocError>
+    ensures { IfOk result (λ rows. rows.items ≡ at_ports (table_number table) row ports.now) }
 {
     let mut rows = Vec::new(alloc);
     for port in ports {
-        rows.push(Firing::new(table, u64::from(*port), row))?;
+        rows.push(Firing::of(table, u64::from(*port), row))?;
     }
     Ok(rows)
 }

@@ -15,26 +15,26 @@ use std::marker::Model;
 use tool_events::Config;
 use transactions::Transactions;
 
-/// All that the tool is, borrowed. Contracts see it as the state of the tables.
+/// All that the tool is, borrowed: its parts, each under its name in the state of the tables. Contracts see it as that state.
 #[derive(Drop)]
 pub struct Seen<'a> {
-    pub(crate) config: &'a Config,
-    pub(crate) moment: Moment,
-    // What the host's clock showed, and the moment at which it did.
-    pub(crate) shown: Moment,
-    pub(crate) shown_at: Moment,
-    pub(crate) quitting: bool,
-    pub(crate) link: &'a LinkState,
-    pub(crate) comm: Comm,
-    pub(crate) control: Control,
-    pub(crate) switch_local: bool,
-    pub(crate) transactions: &'a Transactions,
-    pub(crate) constants: &'a Constants,
-    pub(crate) reports: &'a Reports,
-    pub(crate) alarms: &'a Alarms,
-    pub(crate) line: &'a CountedLine,
-    pub(crate) floor: FloorParts<'a>,
-    pub(crate) waiting: &'a VecDeque<Bytes>,
+    pub config: &'a Config,
+    pub moment: Moment,
+    /// What the host's clock showed, and the moment at which it did.
+    pub shown: Moment,
+    pub shown_at: Moment,
+    pub quitting: bool,
+    pub link: &'a LinkState,
+    pub comm: Comm,
+    pub control: Control,
+    pub switch_local: bool,
+    pub transactions: &'a Transactions,
+    pub constants: &'a Constants,
+    pub reports: &'a Reports,
+    pub alarms: &'a Alarms,
+    pub line: &'a CountedLine,
+    pub floor: FloorParts<'a>,
+    pub waiting: &'a VecDeque<Bytes>,
 }
 
 impl<'a> Model for Seen<'a> {
@@ -62,48 +62,6 @@ impl<'a> Model for Seen<'a> {
 }
 
 impl<'a> Seen<'a> {
-    /// What the tool is, by its parts, each under its name in the state of the tables; of the clock what it showed, and the moment
-    /// at which it did.
-    pub fn of(
-        config: &'a Config,
-        moment: Moment,
-        shown: Moment,
-        shown_at: Moment,
-        quitting: bool,
-        link: &'a LinkState,
-        comm: Comm,
-        control: Control,
-        switch_local: bool,
-        transactions: &'a Transactions,
-        constants: &'a Constants,
-        reports: &'a Reports,
-        alarms: &'a Alarms,
-        line: &'a CountedLine,
-        floor: FloorParts<'a>,
-        waiting: &'a VecDeque<Bytes>,
-    ) -> Seen<'a>
-        ensures { result ≡ record { config = config.now; moment = moment.0; clock = record { shown = shown.0; at = shown_at.0 }; quitting = quitting; link = link.now; comm = comm; control = control; switch_local = switch_local; transactions = transactions.now; constants = constants.now; reports = reports.now; alarms = alarms.now; line = line.now; floor = floor.entry; waiting = waiting.now.items } }
-    {
-        Seen {
-            config,
-            moment,
-            shown,
-            shown_at,
-            quitting,
-            link,
-            comm,
-            control,
-            switch_local,
-            transactions,
-            constants,
-            reports,
-            alarms,
-            line,
-            floor,
-            waiting,
-        }
-    }
-
     /// The equipment constants.
     pub fn constants(&self) -> &Constants
         ensures { result.now ≡ self.now.constants }

@@ -15,7 +15,7 @@ use crate::floor::ToolFloor;
 use carrier::Carrier;
 use floor_model::Substrate;
 use gem_ids::SubstrateId;
-use gem_tables::RowId;
+use gem_tables::{RowId, Table};
 use robot_moves::Module;
 use substrate::is_work_place;
 use tool_tasks::Task;
@@ -240,13 +240,13 @@ impl ToolFloor {
         ensures transport { row.table ≡ 12 → result ≡ wants_found (λ want. substrate_wants want s.now self.now) (row_of transport_table row.row) }
         ensures processing { row.table ≡ 13 → result ≡ wants_found (λ want. substrate_wants want s.now self.now) (row_of processing_table row.row) }
     {
-        match (row.table, row.row) {
-            (12, 2) => self.is_outside(s),
-            (12, 3) => self.is_in_slot(s),
-            (13, 2) => self.is_processed(s),
-            (13, 5) => self.is_skipped(s),
-            (13, 6) => self.is_outside(s) && self.is_of_stopping(s),
-            (13, 7) => self.is_outside(s) && self.is_of_aborting(s),
+        match (Table::of(row.table), row.row) {
+            (Some(Table::Transport), 2) => self.is_outside(s),
+            (Some(Table::Transport), 3) => self.is_in_slot(s),
+            (Some(Table::Processing), 2) => self.is_processed(s),
+            (Some(Table::Processing), 5) => self.is_skipped(s),
+            (Some(Table::Processing), 6) => self.is_outside(s) && self.is_of_stopping(s),
+            (Some(Table::Processing), 7) => self.is_outside(s) && self.is_of_aborting(s),
             _ => true,
         }
     }

@@ -17,16 +17,13 @@ ghost use Rattle.floor_model.specs.Jobs.{carrier_code};
 ghost use Rattle.tool_floor.specs.Located.{first_location, NoSubstrates, NoShop};
 ghost use Rattle.floor_model.specs.Signals.{is_no_module};
 
-use crate::jobs::{CONTROL_JOB, PROCESS_JOB};
 use crate::naming::place_name;
 use crate::opening::{first_equipment, first_places, first_work};
-use crate::readiness::{ACCESSING, LOCATION, PROCESSING, TRANSPORT};
-use crate::rows::MOVES;
 use crate::tracking::Substrates;
 use carrier::{Carrier, CarrierAction};
 use floor_model::{FloorParts, Substrate};
 use gem_ids::{CmdNo, LocId, ModuleId, PortNo, SubstrateId, Text80};
-use gem_tables::Firing;
+use gem_tables::{Firing, Table};
 use load_port::{Arrival, Caack};
 use robot_moves::{Module, Modules};
 use shop_floor::ShopFloor;
@@ -332,12 +329,12 @@ impl ToolFloor {
     pub fn object_name(&self, x: Firing) -> Text80
         ensures { result ≡ object_name x self.now }
     {
-        match x.row.table {
-            LOCATION => self.location_name(x.object),
-            TRANSPORT | PROCESSING => self.substrate_name(x.object),
-            PROCESS_JOB => self.jobs.process_name(x.object),
-            CONTROL_JOB => self.jobs.control_name(x.object),
-            MOVES => Text80::empty(),
+        match Table::of(x.row.table) {
+            Some(Table::Location) => self.location_name(x.object),
+            Some(Table::Transport | Table::Processing) => self.substrate_name(x.object),
+            Some(Table::ProcessJob) => self.jobs.process_name(x.object),
+            Some(Table::ControlJob) => self.jobs.control_name(x.object),
+            Some(Table::Moves) => Text80::empty(),
             _ => self.shop.object_name(x),
         }
     }
@@ -415,13 +412,13 @@ impl ToolFloor {
     pub fn starts(&self, x: Firing) -> bool
         ensures { result ≡ floor_starts x self.now }
     {
-        match x.row.table {
-            ACCESSING => self.starts_at_carrier(x),
-            LOCATION => self.starts_at_location(x),
-            TRANSPORT | PROCESSING => self.starts_at_substrate(x),
-            PROCESS_JOB => self.starts_at_process(x),
-            CONTROL_JOB => self.starts_at_control(x),
-            MOVES => self.module_starts(x),
+        match Table::of(x.row.table) {
+            Some(Table::Accessing) => self.starts_at_carrier(x),
+            Some(Table::Location) => self.starts_at_location(x),
+            Some(Table::Transport | Table::Processing) => self.starts_at_substrate(x),
+            Some(Table::ProcessJob) => self.starts_at_process(x),
+            Some(Table::ControlJob) => self.starts_at_control(x),
+            Some(Table::Moves) => self.module_starts(x),
             _ => self.shop.starts(x),
         }
     }
@@ -454,15 +451,15 @@ impl ToolFloor {
         ensures follow { IfOk result (λ rows. rows.items ≡ creation_rows x self.old) }
         ensures err { (x.row.table == 9) ≡ false → IfErr result (λ _. self.new ≡ self.old) }
     {
-        match x.row.table {
-            7 => return self.fire_association(alloc, x),
-            9 => return self.fire_map(alloc, x),
-            ACCESSING => self.shop.fire_accessing(x.object, x.row.row),
-            LOCATION => self.fire_location(x),
-            TRANSPORT | PROCESSING => self.fire_substrate(x),
-            PROCESS_JOB => self.fire_process(x.object, x.row.row),
-            CONTROL_JOB => self.fire_control(x),
-            MOVES => self.fire_move(x)?,
+        match Table::of(x.row.table) {
+            Some(Table::Association) => return self.fire_association(alloc, x),
+            Some(Table::SlotMap) => return self.fire_map(alloc, x),
+            Some(Table::Accessing) => self.shop.fire_accessing(x.object, x.row.row),
+            Some(Table::Location) => self.fire_location(x),
+            Some(Table::Transport | Table::Processing) => self.fire_substrate(x),
+            Some(Table::ProcessJob) => self.fire_process(x.object, x.row.row),
+            Some(Table::ControlJob) => self.fire_control(x),
+            Some(Table::Moves) => self.fire_move(x)?,
             _ => return self.fire_shop(alloc, x),
         }
         Ok(Vec::new(alloc))
@@ -565,7 +562,7 @@ impl ToolFloor {
         requires { is_one_of (12 ∷ 13 ∷ []) x.row.table ≡ true }
         ensures { self.new ≡ floor_fired x self.old }
     {
-        if x.row.table == PROCESSING && x.row.row == 8 {
+        if x.row.is_of(Table::Processing) && x.row.row == 8 {
             self.lose(x.object);
         }
         self.substrates.fire(x.object, x.row.table, x.row.row);

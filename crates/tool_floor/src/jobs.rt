@@ -23,15 +23,10 @@ use crate::members::{is_here, mark, names_carrier};
 use control_job::ControlJob;
 use floor_model::Substrate;
 use gem_ids::{JobId, Text80};
-use gem_tables::Firing;
+use gem_tables::{Firing, Table};
 use process_job::{JobFault, JobSpec, JobState, ProcessJob};
 use std::alloc::Global;
 use tool_jobs::{ControlFault, Sight};
-
-// The tables of jobs.
-pub(crate) const PROCESS_JOB: u8 = 14;
-
-pub(crate) const CONTROL_JOB: u8 = 15;
 
 impl ToolFloor {
     // ---- what the floor shows of a process job
@@ -160,7 +155,7 @@ impl ToolFloor {
         for place in 0..self.process_count() {
             if let Some(job) = self.process_at(place) {
                 if let Some(row) = self.process_row(job) {
-                    return Some(Firing::new(PROCESS_JOB, job.number, row));
+                    return Some(Firing::of(Table::ProcessJob, job.number, row));
                 }
             }
         }
@@ -213,7 +208,7 @@ impl ToolFloor {
         for place in 0..self.control_count() {
             if let Some(job) = self.control_at(place) {
                 if let Some(row) = self.control_row(job) {
-                    return Some(Firing::new(CONTROL_JOB, job.number, row));
+                    return Some(Firing::of(Table::ControlJob, job.number, row));
                 }
             }
         }

@@ -10,10 +10,10 @@ ghost use Rattle.floor_model.specs.Views.{chamber_bits, chambers_of, recipe_of, 
 ghost use Rattle.floor_model.specs.Modules.{is_by, move_ready, move_starts};
 
 use crate::floor::ToolFloor;
-use crate::rows::{self, MOVES};
+use crate::rows;
 use floor_model::Substrate;
 use gem_ids::{ModuleId, Text80};
-use gem_tables::Firing;
+use gem_tables::{Firing, Table};
 use process_job::{JobState, ProcessJob};
 use robot_moves::{Module, Move, PlaceView, Planner};
 use substrate::Registered;
@@ -114,7 +114,7 @@ impl ToolFloor {
             return None;
         }
         match self.next_move() {
-            Some(next) => Some(Firing::new(MOVES, u64::from(next.module.0), next.row)),
+            Some(next) => Some(Firing::of(Table::Moves, u64::from(next.module.0), next.row)),
             None => None,
         }
     }

@@ -1,6 +1,7 @@
 //! Which rows of tables 10 to 13 start, and which are ready by themselves (this tool's profile, tables 10 to 13 and settling).
 
 ghost use Rattle.std.specs.Prelude.{◌≡◌, ◌<◌, ◌+◌, ◌∷◌, [], true, false, length, map, Some, None};
+ghost use Rattle.gem_tables.specs.Names.{table_number};
 ghost use Rattle.gem_tables.specs.Table.{first_itself, is_one_of};
 ghost use Rattle.gem_tables.specs.Machine.{first_ready, ready_in};
 ghost use Rattle.carrier.specs.Tables.{access_number, accessing_table};
@@ -15,17 +16,8 @@ ghost use Rattle.tool_floor.specs.Located.{first_accessing, first_location, firs
 use crate::floor::ToolFloor;
 use carrier::{Accessing, Carrier};
 use floor_model::Substrate;
-use gem_tables::Firing;
+use gem_tables::{Firing, Table};
 use substrate::{LocationRecord, Occupancy, Processing, Transport};
-
-// The tables of carriers, locations and substrates.
-pub(crate) const ACCESSING: u8 = 10;
-
-pub(crate) const LOCATION: u8 = 11;
-
-pub(crate) const TRANSPORT: u8 = 12;
-
-pub(crate) const PROCESSING: u8 = 13;
 
 impl ToolFloor {
     // ---- accessing
@@ -39,7 +31,7 @@ impl ToolFloor {
         match self.shop.carrier_numbered(x.object) {
             Some(carrier) => {
                 let mut states = carrier.states;
-                states.fire(ACCESSING, x.row.row) && self.accessing_wants(x.row.row, carrier)
+                states.fire(x.row.table, x.row.row) && self.accessing_wants(x.row.row, carrier)
             }
             None => false,
         }
@@ -76,7 +68,7 @@ impl ToolFloor {
         for place in 0..self.carrier_count() {
             if let Some(carrier) = self.carrier_at(place) {
                 if let Some(row) = self.accessing_row(carrier) {
-                    return Some(Firing::new(ACCESSING, carrier.number, row));
+                    return Some(Firing::of(Table::Accessing, carrier.number, row));
                 }
             }
         }
@@ -156,7 +148,7 @@ impl ToolFloor {
             if self.is_changed_at(place) {
                 let number = place as u64 + 1;
                 if let Some(row) = self.location_row(number) {
-                    return Some(Firing::new(LOCATION, number, row));
+                    return Some(Firing::of(Table::Location, number, row));
                 }
             }
         }
@@ -235,14 +227,13 @@ impl ToolFloor {
     }
 
     // The row of table 12 or 13 that is ready at a substrate.
-    fn substrate_row(&self, table: u8, s: &Substrate) -> Option<u8>
-        requires { is_one_of (12 ∷ 13 ∷ []) table ≡ true }
-        ensures { substrate_numbered s.now.number self.now.substrates ≡ Some s.now → result ≡ ready_in floor_machines table s.now.number self.now }
+    fn substrate_row(&self, table: Table, s: &Substrate) -> Option<u8>
+        requires { is_one_of (12 ∷ 13 ∷ []) (table_number table) ≡ true }
+        ensures { substrate_numbered s.now.number self.now.substrates ≡ Some s.now → result ≡ ready_in floor_machines (table_number table) s.now.number self.now }
     {
-        if table == TRANSPORT {
-            self.transport_row(s)
-        } else {
-            self.processing_row(s)
+        match table {
+            Table::Transport => self.transport_row(s),
+            _ => self.processing_row(s),
         }
     }
 
@@ -255,7 +246,7 @@ impl ToolFloor {
         if !self.places.is_any_at_work() && !self.substrates.is_any_at_work() {
             return None;
         }
-        self.ready_substrate(TRANSPORT)
+        self.ready_substrate(Table::Transport)
     }
 
     // The row of table 13 that is ready at the first substrate at which one is.
@@ -267,7 +258,7 @@ impl ToolFloor {
         if !self.is_any_due() && !self.is_any_ending() {
             return None;
         }
-        self.ready_substrate(PROCESSING)
+        self.ready_substrate(Table::Processing)
     }
 
     // The same of each table, where it may be known that there is none.
@@ -295,14 +286,14 @@ impl ToolFloor {
 
     // The row of table 12 or 13 that is ready at the first substrate at which one is.
     #[inline(never)]
-    fn ready_substrate(&self, table: u8) -> Option<Firing>
-        requires { is_one_of (12 ∷ 13 ∷ []) table ≡ true }
-        ensures { result ≡ first_ready table (λ n. ready_in floor_machines table n self.now) (map number_of self.now.substrates) }
+    fn ready_substrate(&self, table: Table) -> Option<Firing>
+        requires { is_one_of (12 ∷ 13 ∷ []) (table_number table) ≡ true }
+        ensures { result ≡ first_ready (table_number table) (λ n. ready_in floor_machines (table_number table) n self.now) (map number_of self.now.substrates) }
     {
         for place in 0..self.substrate_count() {
             if let Some(substrate) = self.substrate_at(place) {
                 if let Some(row) = self.substrate_row(table, substrate) {
-                    return Some(Firing::new(table, substrate.number, row));
+                    return Some(Firing::of(table, substrate.number, row));
                 }
             }
         }

@@ -6,11 +6,10 @@ ghost use Rattle.gem_tables.specs.Table.{firing};
 ghost use Rattle.floor_model.specs.Substrates.{registers_at, registers_slot, registers_slots, registers_at_port, registration_rows, emptied, removed_of, without_carrier};
 
 use crate::floor::ToolFloor;
-use crate::readiness::{PROCESSING, TRANSPORT};
 use carrier::Carrier;
 use floor_model::Substrate;
 use gem_ids::{LocId, PortNo, SlotNo, SubstrateId, substrate_id};
-use gem_tables::Firing;
+use gem_tables::{Firing, Table};
 use std::alloc::{AllocError, Global};
 use substrate::{PlaceFault, SubstrateRecord};
 
@@ -25,8 +24,8 @@ fn code_at(slots: &[u8], place: usize) -> Option<u8>
 fn push_rows(number: u64, rows: &mut Vec<Firing>) -> Result<(), AllocError>
     ensures { OnOk result (rows.new.items ≡ (rows.old.items ++ firing 12 number 1 ∷ []) ++ firing 13 number 1 ∷ []) }
 {
-    rows.push(Firing::new(TRANSPORT, number, 1))?;
-    rows.push(Firing::new(PROCESSING, number, 1))?;
+    rows.push(Firing::of(Table::Transport, number, 1))?;
+    rows.push(Firing::of(Table::Processing, number, 1))?;
     Ok(())
 }
 

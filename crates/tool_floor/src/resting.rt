@@ -1,6 +1,7 @@
 //! The floor of the tool, with what is known of the rows of it that are ready by themselves.
 
 ghost use Rattle.std.specs.Prelude.{◌≡◌, ◌==◌, ◌<◌, true, false, None, Some, is_some, Err, IfOk, IfErr, IfSome, IsTrue};
+ghost use Rattle.gem_tables.specs.Names.{table_number};
 ghost use Rattle.load_port.specs.Caack.{is_done_code};
 ghost use Rattle.load_port.specs.Ports.{is_no_port};
 ghost use Rattle.robot_moves.specs.Modules.{module_at, unfetched};
@@ -18,11 +19,9 @@ ghost use Rattle.floor_model.specs.Jobs.{carrier_code};
 ghost use Rattle.tool_floor.specs.Located.{leaves_places, is_of_shop};
 
 use crate::floor::{AtRest, ToolFloor};
-use crate::readiness::{ACCESSING, LOCATION, PROCESSING};
-use crate::rows::MOVES;
 use carrier::CarrierAction;
 use gem_ids::{JobId, ModuleId, PortNo};
-use gem_tables::{Firing, RowId};
+use gem_tables::{Firing, RowId, Table};
 use load_port::Arrival;
 use process_job::{JobFault, JobSpec};
 use std::alloc::{AllocError, Global};
@@ -46,11 +45,11 @@ pub struct RestingFloor {
 fn leaves_places(row: RowId) -> bool
     ensures { result ≡ leaves_places row.table row.row }
 {
-    match row.table {
-        7 => row.row != 6,
-        9 => row.row != 1 && row.row != 3,
-        PROCESSING => row.row != 8,
-        LOCATION | MOVES => false,
+    match Table::of(row.table) {
+        Some(Table::Association) => row.row != 6,
+        Some(Table::SlotMap) => row.row != 1 && row.row != 3,
+        Some(Table::Processing) => row.row != 8,
+        Some(Table::Location | Table::Moves) => false,
         _ => true,
     }
 }
@@ -59,10 +58,16 @@ fn leaves_places(row: RowId) -> bool
 fn is_of_shop(row: RowId) -> bool
     ensures { result ≡ is_of_shop row.table row.row }
 {
-    match row.table {
-        7 => row.row != 6,
-        9 => row.row != 1 && row.row != 3,
-        4 | 5 | 6 | 8 | ACCESSING => true,
+    match Table::of(row.table) {
+        Some(Table::Association) => row.row != 6,
+        Some(Table::SlotMap) => row.row != 1 && row.row != 3,
+        Some(
+            Table::Transfer
+            | Table::Access
+            | Table::Reservation
+            | Table::CarrierId
+            | Table::Accessing,
+        ) => true,
         _ => false,
     }
 }
@@ -71,15 +76,15 @@ fn is_of_shop(row: RowId) -> bool
 fn is_of_locations(row: RowId) -> bool
     ensures { result ≡ (row.table == 11) }
 {
-    row.table == LOCATION
+    row.is_of(Table::Location)
 }
 
 // Whether the least row that is ready is of a later table than this one, or there is none.
-fn is_past(table: u8, least: &Option<Firing>) -> bool
-    ensures { IsTrue result → IfSome least.now (λ x. table < x.row.table) }
+fn is_past(table: Table, least: &Option<Firing>) -> bool
+    ensures { IsTrue result → IfSome least.now (λ x. table_number table < x.row.table) }
 {
     match least {
-        Some(x) => table < x.row.table,
+        Some(x) => table.number() < x.row.table,
         None => true,
     }
 }
@@ -129,9 +134,9 @@ impl RestingFloor {
             substrates: self.substrates_rest,
             shop: self.shop_rests,
         });
-        self.locations_rest = self.locations_rest || is_past(LOCATION, &least);
-        self.substrates_rest = self.substrates_rest || is_past(PROCESSING, &least);
-        self.shop_rests = self.shop_rests || is_past(ACCESSING, &least);
+        self.locations_rest = self.locations_rest || is_past(Table::Location, &least);
+        self.substrates_rest = self.substrates_rest || is_past(Table::Processing, &least);
+        self.shop_rests = self.shop_rests || is_past(Table::Accessing, &least);
         self.rests = least.is_none();
         least
     }

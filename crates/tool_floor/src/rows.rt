@@ -11,9 +11,6 @@ use gem_ids::{CmdNo, ModuleId};
 use robot_moves::{Module, Modules};
 use tool_tasks::Task;
 
-// The table of moves.
-pub(crate) const MOVES: u8 = 16;
-
 // ---- tasks
 
 // Whether a substrate is picked or placed.

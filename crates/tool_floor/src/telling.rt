@@ -9,12 +9,11 @@ ghost use Rattle.floor_model.specs.Naming.{named_by, module_names};
 ghost use Rattle.floor_model.specs.Signals.{at_module, at_processed, processed_rows, done_at, done_rows, closing_at, closing_rows, done_processing, at_done, done_processed, can_be_lost, lost_at, lost_rows};
 
 use crate::floor::ToolFloor;
-use crate::readiness::PROCESSING;
-use crate::rows::{MOVES, done_row};
+use crate::rows::done_row;
 use arrayvec::ArrayVec;
 use floor_model::Substrate;
 use gem_ids::{ModuleId, SubstrateId};
-use gem_tables::Firing;
+use gem_tables::{Firing, Table};
 use robot_moves::Module;
 use tool_tasks::Task;
 
@@ -59,7 +58,7 @@ impl ToolFloor {
     {
         match task {
             Task::Process { sub, .. } => match self.number_named(*sub) {
-                Some(number) => Some(Firing::new(PROCESSING, number, row)),
+                Some(number) => Some(Firing::of(Table::Processing, number, row)),
                 None => None,
             },
             _ => None,
@@ -89,7 +88,7 @@ impl ToolFloor {
         match task {
             Task::Process { sub, .. } => match self.number_named(*sub) {
                 Some(number) => {
-                    Some(Firing::new(PROCESSING, number, self.done_processing(number)))
+                    Some(Firing::of(Table::Processing, number, self.done_processing(number)))
                 }
                 None => None,
             },
@@ -104,7 +103,7 @@ impl ToolFloor {
     {
         match self.modules.get(m) {
             Some(Module::Busy { command, .. }) => one_or_two(
-                Firing::new(MOVES, u64::from(m.0), done_row(&command.task)),
+                Firing::of(Table::Moves, u64::from(m.0), done_row(&command.task)),
                 self.done_processed(&command.task),
             ),
             _ => ArrayVec::new(),
@@ -115,7 +114,7 @@ impl ToolFloor {
     pub fn closing_rows(&self, row: u8, m: ModuleId) -> ArrayVec<Firing, 2>
         ensures { result.items ≡ closing_rows row m.0 self.now }
     {
-        let closes = Firing::new(MOVES, u64::from(m.0), row);
+        let closes = Firing::of(Table::Moves, u64::from(m.0), row);
         match self.modules.get(m) {
             Some(Module::Busy { command, .. }) => {
                 one_or_two(closes, self.processed_row(4, &command.task))
@@ -154,7 +153,7 @@ impl ToolFloor {
         match self.substrate(number) {
             Some(substrate) => {
                 if self.can_be_lost(&substrate) {
-                    Some(Firing::new(PROCESSING, number, 8))
+                    Some(Firing::of(Table::Processing, number, 8))
                 } else {
                     None
                 }

@@ -15,7 +15,7 @@ pub returns-in-Some-accessing_row : goal.returns-in-Some-accessing_row
 returns-in-Some-accessing_row c =
     let here = sym c.carrier_at.ensures ∙ ap option_copied c.in-Some.is in
     let found = numbered_at 1 c.args.self.now.shop.next_carrier c.args.self.now.shop.carriers c.loop-place.place c.in-Some.carrier.now c.carrier_count-place-end.ensures.valid.rising here in
-    ap (λ (x : Firing). Some x) c.new.ensures
+    ap (λ (x : Firing). Some x) c.of.ensures
     ∙ sym (ready_here 10 (at c.args.self.now) (map number_of c.args.self.now.shop.carriers) c.loop-place.place c.in-Some.carrier.now.number c.in-Some-accessing_row.row
     (carrier_number c.args.self.now.shop.carriers c.loop-place.place c.in-Some.carrier.now here) (sym (c.accessing_row.ensures found) ∙ c.in-Some-accessing_row.is))
     ∙ c.loop-place.invariant

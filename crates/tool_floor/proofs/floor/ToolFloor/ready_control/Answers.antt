@@ -17,7 +17,7 @@ pub returns-in-Some-control_row : goal.returns-in-Some-control_row
 returns-in-Some-control_row c =
     let here = shown c.control_at.ensures c.in-Some.is in
     let found = control_found c.args.self.now.jobs.control c.loop-place.place c.in-Some.job.now c.control_count-place-end.ensures.jobs here in
-    ap (λ (x : Firing). Some x) c.new.ensures
+    ap (λ (x : Firing). Some x) c.of.ensures
     ∙ sym (ready_here 15 (at c.args.self.now) (control_numbers c.args.self.now.jobs.control.jobs) c.loop-place.place c.in-Some.job.now.number c.in-Some-control_row.row
     (control_number c.args.self.now.jobs.control.jobs c.loop-place.place c.in-Some.job.now here) (sym (c.control_row.ensures found) ∙ c.in-Some-control_row.is))
     ∙ c.loop-place.invariant

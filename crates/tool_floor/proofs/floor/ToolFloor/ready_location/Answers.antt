@@ -13,7 +13,7 @@ at f number = location_ready number (location_at number f.locations) f
 pub returns-in-Some : goal.returns-in-Some
 returns-in-Some c =
     let within : c.loop-place.place < length c.args.self.now.locations = omega (arith, c.loop-place-test.true, c.location_count-place-end.ensures) in
-    ap (λ (x : Firing). Some x) c.new.ensures
+    ap (λ (x : Firing). Some x) c.of.ensures
     ∙ sym (ready_here 11 (at c.args.self.now) (location_numbers 1 c.args.self.now.locations) c.loop-place.place (c.loop-place.place + 1) c.in-Some.row
     (number_at c.args.self.now.locations c.loop-place.place (c.loop-place.place + 1) within (omega arith)) (sym c.location_row.ensures ∙ c.in-Some.is))
     ∙ c.loop-place.invariant

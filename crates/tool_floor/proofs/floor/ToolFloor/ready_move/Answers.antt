@@ -12,7 +12,7 @@ returns-then-not-is_any_processing c =
 
 pub returns-in-Some : goal.returns-in-Some
 returns-in-Some c =
-    ap (λ (x : Firing). Some x) (c.new.ensures ∙ ap (λ (n : ℕ). firing 16 n c.in-Some.next.row) c.from.ensures)
+    ap (λ (x : Firing). Some x) (c.of.ensures ∙ ap (λ (n : ℕ). firing 16 n c.in-Some.next.row) c.from.ensures)
     ∙ sym (first_move_is c.args.self.now ∙ ap (option_map (firing_of (views c.args.self.now) c.args.self.now.modules)) (sym c.next_move.ensures ∙ c.in-Some.is))
 
 pub returns-in-None : goal.returns-in-None

@@ -16,7 +16,7 @@ pub returns-in-Some-process_row : goal.returns-in-Some-process_row
 returns-in-Some-process_row c =
     let here = shown c.process_at.ensures c.in-Some.is in
     let found = process_found c.args.self.now.jobs.process c.loop-place.place c.in-Some.job.now c.process_count-place-end.ensures.jobs here in
-    ap (λ (x : Firing). Some x) c.new.ensures
+    ap (λ (x : Firing). Some x) c.of.ensures
     ∙ sym (ready_here 14 (at c.args.self.now) (process_numbers c.args.self.now.jobs.process.kept) c.loop-place.place c.in-Some.job.now.number c.in-Some-process_row.row
     (process_number c.args.self.now.jobs.process.kept c.loop-place.place c.in-Some.job.now here) (sym (c.process_row.ensures found) ∙ c.in-Some-process_row.is))
     ∙ c.loop-place.invariant

@@ -13,11 +13,11 @@ ghost use Rattle.item_model.specs.Plain.{plain, plain_head};
 ghost use Rattle.item_model.specs.Sendable.{IsSendable};
 
 use gem_ids::Text80;
-use msgs_gem::gem_item_out;
 use hsms_frame::{Bytes, Frame, Header, write_frame, write_header};
 use item_model::{Format, Item};
 use message_model::{GemReply, ShopReply};
 use msgs_300::shop_item;
+use msgs_gem::gem_item_out;
 use secs_items::encode;
 use std::alloc::{AllocError, Global};
 use tool_events::Config;

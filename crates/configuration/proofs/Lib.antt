@@ -1,2 +1,3 @@
+pub mod ChamberSets
 pub mod One
 pub mod Usable

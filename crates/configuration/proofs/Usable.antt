@@ -3,12 +3,14 @@ use Rattle.std.proofs.Common.{◌≡◌, ◌≤◌, ℕ, zero, suc, nat_eq, nat_
 use Rattle.std.specs.List.{list_any, list_all}
 use Rattle.std.proofs.lemmas.Bool.{and_parts, and_from, or_left, or_right}
 use Rattle.std.proofs.lemmas.Bool.Decides.{nat_tests}
+use Rattle.std.proofs.lemmas.Nat.Bits.{bit_at_ones}
 use Rattle.toml.specs.Data.{Data, Items, no_items, item, Members, as_table, as_array, get_member}
 use Rattle.tool_events.specs.Configs.{is_usable, are_usable}
+use Rattle.tool_tasks.specs.Chambers.{has_chamber, chamber_set, chamber_list, chambers_to}
 use Rattle.tool_tasks.specs.declared.recipes.Recipe.{Recipe}
-use Rattle.tool_tasks.specs.declared.recipes.RecipeChambers.{RecipeChambers}
+use Rattle.tool_tasks.proofs.Sets.{set_has, any_listed}
 use Rattle.configuration.specs.Values.{is_between, as_natural, number_in, text_of, has, numbers_behind, some_items, filled_list, has_other}
-use Rattle.configuration.specs.Recipes.{most_recipes, recipe_keys, chambers_in, recipe_in, has_name, with_recipe, recipes_behind, recipes_of}
+use Rattle.configuration.specs.Recipes.{most_recipes, recipe_keys, chambers_in, recipe_in, has_name, with_recipe, recipes_behind, recipes_of, recipe_for_all}
 use Rattle.configuration.specs.Rules.{recipes, said_at, taken}
 
 -- ---- lists of numbers
@@ -67,34 +69,28 @@ first_chamber chambers d ds ns e = of (number_in 1 chambers d) refl e where
       let b = lies.1 in
       record { n = n; first = grind (arith, nat_tests, a); last = grind (arith, nat_tests, b); there = stays_in n 1 chambers (n ∷ []) ds ns (any_last n []) e }
 
--- such a number is one of the two
-usable_by : (chambers : ℕ) (ns : List ℕ) → chambers ≤ 2 → IsChamber chambers ns → (has 1 ns && nat_le 1 chambers || has 2 ns && nat_le 2 chambers) ≡ true
-usable_by chambers ns few c = of c.n c.first c.last c.there where
-  at_least : (k : ℕ) → k ≤ chambers → nat_le k chambers ≡ true
-  at_least k less = grind (arith, nat_tests)
-
-  of : (n : ℕ) → 1 ≤ n → n ≤ chambers → has n ns ≡ true → (has 1 ns && nat_le 1 chambers || has 2 ns && nat_le 2 chambers) ≡ true
-  of zero first last there = absurd (omega (arith, first))
-  of (suc zero) first last there = or_left (has 1 ns && nat_le 1 chambers) (has 2 ns && nat_le 2 chambers) (and_from (has 1 ns) (nat_le 1 chambers) there (at_least 1 last))
-  of (suc (suc zero)) first last there = or_right (has 1 ns && nat_le 1 chambers) (has 2 ns && nat_le 2 chambers) (and_from (has 2 ns) (nat_le 2 chambers) there (at_least 2 last))
-  of (suc (suc (suc k))) first last there = absurd (omega (arith, last, few))
+-- the set of such a list has a chamber of the tool
+usable_by : (chambers : ℕ) (ns : List ℕ) → chambers ≤ 2 → IsChamber chambers ns → list_any (λ c. nat_le c chambers) (chamber_list (chamber_set ns)) ≡ true
+usable_by chambers ns few c =
+    let last = c.last in
+    any_listed (λ n. nat_le n chambers) (chamber_set ns) c.n c.first (omega (arith, last, few)) (set_has ns 0 c.n (or_right (has_chamber 0 c.n) (has c.n ns) c.there)) (grind (arith, nat_tests, last))
 
 -- ---- recipes
 
-chambers_usable : (chambers : ℕ) (name : List ℕ) (d : Data) (cs : RecipeChambers) → chambers ≤ 2 → chambers_in chambers d ≡ Some cs → is_usable chambers (record { name = name; chambers = cs }) ≡ true
+chambers_usable : (chambers : ℕ) (name : List ℕ) (d : Data) (cs : ℕ) → chambers ≤ 2 → chambers_in chambers d ≡ Some cs → is_usable chambers (record { name = name; chambers = cs }) ≡ true
 chambers_usable chambers name d cs few e = of_list (filled_list d) refl e where
-  of_numbers : (ds : Items) (o : Option (List ℕ)) → numbers_behind 1 chambers [] ds ≡ o → ((ns : List ℕ) → o ≡ Some ns → IsChamber chambers ns) → option_map (λ ns. record { one = has 1 ns; two = has 2 ns }) o ≡ Some cs → is_usable chambers (record { name = name; chambers = cs }) ≡ true
+  of_numbers : (ds : Items) (o : Option (List ℕ)) → numbers_behind 1 chambers [] ds ≡ o → ((ns : List ℕ) → o ≡ Some ns → IsChamber chambers ns) → option_map chamber_set o ≡ Some cs → is_usable chambers (record { name = name; chambers = cs }) ≡ true
   of_numbers ds None q each e = absurd (cc)
   of_numbers ds (Some ns) q each e =
-      let same : record { one = has 1 ns; two = has 2 ns } ≡ cs = cc in
-      subst (λ (x : RecipeChambers). is_usable chambers (record { name = name; chambers = x }) ≡ true) same (usable_by chambers ns few (each ns refl))
+      let same : chamber_set ns ≡ cs = cc in
+      subst (λ (x : ℕ). is_usable chambers (record { name = name; chambers = x }) ≡ true) same (usable_by chambers ns few (each ns refl))
 
   filled : (o : Option Items) (ds : Items) → option_and_then some_items o ≡ Some ds → (d : Data) × (rest : Items) × (ds ≡ item d rest)
   filled None ds e = absurd (cc)
   filled (Some no_items) ds e = absurd (cc)
   filled (Some (item d rest)) ds e = (d, rest, cc)
 
-  of_list : (o : Option Items) → filled_list d ≡ o → option_map (λ ns. record { one = has 1 ns; two = has 2 ns }) (option_and_then (numbers_behind 1 chambers []) o) ≡ Some cs → is_usable chambers (record { name = name; chambers = cs }) ≡ true
+  of_list : (o : Option Items) → filled_list d ≡ o → option_map chamber_set (option_and_then (numbers_behind 1 chambers []) o) ≡ Some cs → is_usable chambers (record { name = name; chambers = cs }) ≡ true
   of_list None q e = absurd (cc)
   of_list (Some ds) q e =
       let w = filled (as_array d) ds q in
@@ -106,7 +102,7 @@ recipe_usable chambers ms r few e = by_keys (has_other recipe_keys ms) e where
   by_chambers : (name : List ℕ) (d : Option Data) → option_map (λ cs. record { name = name; chambers = cs }) (option_and_then (chambers_in chambers) d) ≡ Some r → is_usable chambers r ≡ true
   by_chambers name None e = absurd (cc)
   by_chambers name (Some d) e = of (chambers_in chambers d) refl e where
-    of : (o : Option RecipeChambers) → chambers_in chambers d ≡ o → option_map (λ cs. record { name = name; chambers = cs }) o ≡ Some r → is_usable chambers r ≡ true
+    of : (o : Option ℕ) → chambers_in chambers d ≡ o → option_map (λ cs. record { name = name; chambers = cs }) o ≡ Some r → is_usable chambers r ≡ true
     of None q e = absurd (cc)
     of (Some cs) q e =
         let same : record { name = name; chambers = cs } ≡ r = cc in
@@ -145,6 +141,14 @@ list_usable chambers d rs few e = of (filled_list d) e where
   of : (o : Option Items) → option_and_then (recipes_behind chambers []) o ≡ Some rs → are_usable chambers rs ≡ true
   of None e = absurd (cc)
   of (Some ds) e = all_usable chambers [] ds rs few refl e
+
+-- ---- the recipe for all chambers
+
+-- it has chamber 1
+pub default_usable : (chambers : ℕ) → 1 ≤ chambers → are_usable chambers (recipe_for_all chambers) ≡ true
+default_usable chambers some =
+    and_from (is_usable chambers (record { name = codes "R1"; chambers = chambers_to chambers })) true
+    (any_listed (λ n. nat_le n chambers) (chambers_to chambers) 1 (omega arith) (omega arith) (grind (arith, bit_at_ones chambers 0 some)) (grind (arith, nat_tests, some))) refl
 
 -- ---- what is taken
 

@@ -3,18 +3,17 @@ use Rattle.std.specs.Prelude.{ℕ, Bool, true, ◌||◌, nat_le, if◌then◌els
 use Rattle.std.specs.List.{list_any}
 use Rattle.std.specs.Str.{bytes_eq}
 use Rattle.toml.specs.Data.{Data, Items, no_items, item, Members, as_table, get_member}
+use Rattle.tool_tasks.specs.Chambers.{chamber_set, chambers_to}
 use Rattle.tool_tasks.specs.declared.recipes.Recipe.{Recipe}
-use Rattle.tool_tasks.specs.declared.recipes.RecipeChambers.{RecipeChambers}
-use Rattle.configuration.specs.Values.{text_of, has, numbers_behind, filled_list, has_other}
+use Rattle.configuration.specs.Values.{text_of, numbers_behind, filled_list, has_other}
 
 -- the greatest number of recipes (this tool's profile, limits)
 abbrev pub most_recipes : ℕ
 most_recipes = 32
 
--- a list of distinct numbers of the plant's chambers that isn't empty, as the chambers that it has
-abbrev pub chambers_in : ℕ → Data → Option RecipeChambers
-chambers_in chambers d =
-    option_map (λ ns. record { one = has 1 ns; two = has 2 ns }) (option_and_then (numbers_behind 1 chambers []) (filled_list d))
+-- a list of distinct numbers of the plant's chambers that isn't empty, as the set of them
+abbrev pub chambers_in : ℕ → Data → Option ℕ
+chambers_in chambers d = option_map chamber_set (option_and_then (numbers_behind 1 chambers []) (filled_list d))
 
 -- the keys of a recipe
 abbrev pub recipe_keys : List (List ℕ)
@@ -47,4 +46,4 @@ recipes_of chambers d = option_and_then (recipes_behind chambers []) (filled_lis
 
 -- the recipes where none are given: one, `R1`, for all chambers
 abbrev pub recipe_for_all : ℕ → List Recipe
-recipe_for_all chambers = record { name = codes "R1"; chambers = record { one = true; two = nat_le 2 chambers } } ∷ []
+recipe_for_all chambers = record { name = codes "R1"; chambers = chambers_to chambers } ∷ []

@@ -1,10 +1,9 @@
 -- What a key of the configuration may say, but for the recipes: numbers, texts, truths, words and lists of numbers, as TOML
 -- has them (TOML, values; this tool's profile, configuration).
-use Rattle.std.specs.Prelude.{ℕ, ◌+◌, pos, Bool, false, ◌&&◌, ◌||◌, not, nat_eq, nat_le, if◌then◌else◌, List, [], ◌∷◌, ◌++◌, length, Option, Some, None, option_and_then, option_map}
+use Rattle.std.specs.Prelude.{ℕ, pos, Bool, false, ◌&&◌, ◌||◌, not, nat_eq, nat_le, if◌then◌else◌, List, [], ◌∷◌, ◌++◌, length, Option, Some, None, option_and_then, option_map}
 use Rattle.std.specs.List.{list_all, list_any}
 use Rattle.std.specs.Str.{bytes_eq}
 use Rattle.toml.specs.Data.{Data, integer, Items, no_items, item, Members, no_members, member, as_str, as_array}
-use Rattle.configuration.specs.declared.values.Numbers.{Numbers}
 use Rattle.tool_events.specs.declared.config.SpoolStreams.{SpoolStreams}
 
 -- the value, where it passes a test
@@ -50,17 +49,17 @@ numbers_behind least most found no_items = Some found
 numbers_behind least most found (item d ds) =
     option_and_then (λ n. if has n found then None else numbers_behind least most (found ++ n ∷ []) ds) (number_in least most d)
 
--- whether the list has the number, and the one behind it
-abbrev pub flags : ℕ → List ℕ → Numbers
-flags least ns = record { first = has least ns; second = has (least + 1) ns }
-
 -- a list of distinct numbers of at least and at most so much, in its order (this tool's profile, configuration)
 abbrev pub numbers_in : ℕ → ℕ → Data → Option (List ℕ)
 numbers_in least most d = option_and_then (numbers_behind least most []) (as_array d)
 
+-- the streams among these numbers
+abbrev pub streams_in : List ℕ → SpoolStreams
+streams_in ns = record { five = has 5 ns; six = has 6 ns }
+
 -- a list of distinct 5 and 6, as the streams that it has (SEMI E30, spooling; this tool's profile, configuration)
 abbrev pub streams_of : Data → Option SpoolStreams
-streams_of d = option_map (λ ns. record { five = has 5 ns; six = has 6 ns }) (numbers_in 5 6 d)
+streams_of d = option_map streams_in (numbers_in 5 6 d)
 
 -- the values of a list that isn't empty
 abbrev pub some_items : Items → Option Items

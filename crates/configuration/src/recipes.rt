@@ -1,15 +1,17 @@
 //! The reader of recipes.
 ghost use Rattle.std.specs.Prelude.{◌≡◌, ◌≤◌, true, [], Some, None, option_map, if◌then◌else◌};
+ghost use Rattle.tool_tasks.specs.Chambers.{chamber_set};
 ghost use Rattle.tool_events.specs.Configs.{are_usable};
+ghost use Rattle.configuration.specs.Values.{numbers_behind};
 ghost use Rattle.toml.specs.Data.{get_member};
 ghost use Rattle.toml.specs.View.{view, table_view, items_view};
 ghost use Rattle.configuration.specs.Recipes.{chambers_in, recipe_in, has_name, with_recipe, recipes_of, recipes_behind, recipe_for_all};
 
 use crate::keys::has_other_key;
-use crate::values::{Numbers, filled_list, numbers_of, text_of};
+use crate::values::{filled_list, number_in, text_of};
 use gem_ids::Text80;
 use toml::{Table, Value};
-use tool_tasks::{Recipe, RecipeChambers, Recipes};
+use tool_tasks::{Recipe, RecipeChambers, Recipes, has_chamber};
 
 // The greatest number of recipes.
 const MOST_RECIPES: usize = 32;
@@ -24,17 +26,28 @@ pub(crate) fn value_at<'a>(table: &'a Table, key: &str) -> Option<&'a Value>
     table.get(key)
 }
 
+// The chambers of some values, distinct numbers from 1 to so many.
+fn chamber_set(values: &[Value], chambers: u8) -> Option<RecipeChambers>
+    requires { chambers ≤ 2 }
+    ensures { result ≡ option_map chamber_set (numbers_behind 1 chambers [] (items_view values.now)) }
+{
+    let mut found = RecipeChambers::none();
+    for value in values {
+        let chamber = number_in(value, 1, u64::from(chambers))? as u8;
+        if has_chamber(found.bits(), chamber) {
+            return None;
+        }
+        found = found.with(chamber);
+    }
+    Some(found)
+}
+
 // The chambers of a list that isn't empty of distinct numbers from 1 to so many.
 fn chambers_in(value: &Value, chambers: u8) -> Option<RecipeChambers>
     requires { chambers ≤ 2 }
     ensures { result ≡ chambers_in chambers (view value.now) }
 {
-    let values = filled_list(value)?;
-    let Numbers { first, second } = numbers_of(values, 1, u64::from(chambers))?;
-    Some(RecipeChambers {
-        one: first,
-        two: second,
-    })
+    chamber_set(filled_list(value)?, chambers)
 }
 
 // A recipe of a table.
@@ -97,17 +110,16 @@ pub(crate) fn recipes_of(value: &Value, chambers: u8) -> Option<Recipes>
 }
 
 // One recipe, `R1`, for all chambers.
+#[tactic(auto, using(crate::proofs::Usable::default_usable))]
 pub(crate) fn recipe_for_all(chambers: u8) -> Recipes
+    requires { chambers ≤ 2 }
     ensures value { result ≡ recipe_for_all chambers }
     ensures usable { 1 ≤ chambers → are_usable chambers result ≡ true }
 {
     let mut recipes = Recipes::none();
     recipes.push(Recipe {
         name: Text80::read(b"R1".as_slice()).unwrap_or(Text80::empty()),
-        chambers: RecipeChambers {
-            one: true,
-            two: chambers >= 2,
-        },
+        chambers: RecipeChambers::to(chambers),
     });
     recipes
 }

@@ -1,10 +1,10 @@
 //! The readers of single values.
-ghost use Rattle.std.specs.Prelude.{◌≡◌, ℕ, ◌+◌, ◌≤◌, List, [], ◌∷◌, ◌++◌, Some, None, IfSome, if◌then◌else◌, option_map, length};
+ghost use Rattle.std.specs.Prelude.{◌≡◌, ℕ, ◌≤◌, List, [], ◌∷◌, ◌++◌, Some, None, IfSome, if◌then◌else◌, option_map, length};
 ghost use Rattle.std.specs.List.{list_all};
 ghost use Rattle.std.specs.Str.{bytes_eq};
 ghost use Rattle.toml.specs.View.{view, items_view};
 ghost use Rattle.configuration.specs.Rules.{communication_words, control_words};
-ghost use Rattle.configuration.specs.Values.{as_natural, is_between, is_plain, number_in, text_of, word_of, numbers_behind, streams_of, has, flags, filled_list};
+ghost use Rattle.configuration.specs.Values.{as_natural, is_between, is_plain, number_in, text_of, word_of, numbers_behind, streams_in, streams_of, has, filled_list};
 
 use gem_ids::Text80;
 use toml::Value;
@@ -94,46 +94,6 @@ pub(crate) fn control_of(value: &Value) -> Option<ControlStart>
     }
 }
 
-// Two numbers that follow one another, and whether a list has them.
-#[derive(Clone, Copy)]
-pub(crate) struct Numbers {
-    pub(crate) first: bool,
-    pub(crate) second: bool,
-}
-
-// The numbers with one more, of the two; none where they have it.
-fn with_number(found: Numbers, least: u64, number: u64) -> Option<Numbers>
-    requires least { least ≤ number }
-    requires most { number ≤ least + 1 }
-    ensures { (seen : List ℕ) → found ≡ flags least seen → result ≡ (if◌then◌else◌ (has number seen) None (Some (flags least (seen ++ number ∷ [])))) }
-{
-    let first = number == least;
-    let second = !first;
-    if (first && found.first) || (second && found.second) {
-        return None;
-    }
-    Some(Numbers {
-        first: found.first || first,
-        second: found.second || second,
-    })
-}
-
-// The distinct numbers of some values, each of at least and at most so much, of which there are two at most.
-pub(crate) fn numbers_of(values: &[Value], least: u64, most: u64) -> Option<Numbers>
-    requires { most ≤ least + 1 }
-    ensures { result ≡ option_map (flags least) (numbers_behind least most [] (items_view values.now)) }
-{
-    let mut found = Numbers {
-        first: false,
-        second: false,
-    };
-    for value in values {
-        let number = number_in(value, least, most)?;
-        found = with_number(found, least, number)?;
-    }
-    Some(found)
-}
-
 // The values of a list that isn't empty.
 pub(crate) fn filled_list(value: &Value) -> Option<&[Value]>
     ensures { option_map (λ vs. items_view vs.now) result ≡ filled_list (view value.now) }
@@ -144,14 +104,41 @@ pub(crate) fn filled_list(value: &Value) -> Option<&[Value]>
     }
 }
 
+// The streams with one more; none where they have it.
+fn with_stream(found: SpoolStreams, stream: u64) -> Option<SpoolStreams>
+    requires first { 5 ≤ stream }
+    requires last { stream ≤ 6 }
+    ensures { (seen : List ℕ) → found ≡ streams_in seen → result ≡ (if◌then◌else◌ (has stream seen) None (Some (streams_in (seen ++ stream ∷ [])))) }
+{
+    let five = stream == 5;
+    let six = !five;
+    if (five && found.five) || (six && found.six) {
+        return None;
+    }
+    Some(SpoolStreams {
+        five: found.five || five,
+        six: found.six || six,
+    })
+}
+
+// The streams of some values, distinct 5 and 6.
+fn streams_in(values: &[Value]) -> Option<SpoolStreams>
+    ensures { result ≡ option_map streams_in (numbers_behind 5 6 [] (items_view values.now)) }
+{
+    let mut found = SpoolStreams {
+        five: false,
+        six: false,
+    };
+    for value in values {
+        let stream = number_in(value, 5, 6)?;
+        found = with_stream(found, stream)?;
+    }
+    Some(found)
+}
+
 // The streams of a list of distinct 5 and 6.
 pub(crate) fn streams_of(value: &Value) -> Option<SpoolStreams>
     ensures { result ≡ streams_of (view value.now) }
 {
-    let values = value.as_array()?.as_slice();
-    let Numbers { first, second } = numbers_of(values, 5, 6)?;
-    Some(SpoolStreams {
-        five: first,
-        six: second,
-    })
+    streams_in(value.as_array()?.as_slice())
 }

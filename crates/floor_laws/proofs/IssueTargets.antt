@@ -7,7 +7,8 @@ use Rattle.gem_tables.specs.Table.{is_one_of}
 use Rattle.gem_ids.specs.declared.numbers.LocId.{LocId}
 use Rattle.gem_ids.specs.declared.numbers.LocId.TheVariants.{Slot, Aligner, Arm, Chamber}
 use Rattle.robot_moves.specs.Modules.{module_at, chamber_module, is_idle}
-use Rattle.robot_moves.specs.Moves.{first_of, is_empty, is_free, has_chamber, chamber_where_free, free_chamber, target, where_free, free_target}
+use Rattle.tool_tasks.specs.Chambers.{has_chamber}
+use Rattle.robot_moves.specs.Moves.{first_of, is_empty, is_free, chamber_where_free, free_chamber, target, where_free, free_target}
 use Rattle.robot_moves.specs.declared.module.Module.{Module}
 use Rattle.robot_moves.specs.declared.module.Module.TheVariants.{Idle}
 use Rattle.robot_moves.specs.declared.view.PlaceView.{PlaceView}

@@ -6,7 +6,7 @@ use Rattle.gem_ids.specs.declared.numbers.LocId.{LocId}
 use Rattle.gem_ids.specs.declared.numbers.LocId.TheVariants.{Slot}
 use Rattle.gem_ids.specs.declared.numbers.PortNo.{PortNo}
 use Rattle.gem_ids.specs.declared.numbers.SlotNo.{SlotNo}
-use Rattle.robot_moves.specs.Moves.{holder, is_empty, has_chamber}
+use Rattle.robot_moves.specs.Moves.{holder, is_empty}
 use Rattle.robot_moves.specs.declared.view.PlaceView.{PlaceView}
 use Rattle.shop_floor.proofs.Belonging.{all_at}
 use Rattle.substrate.specs.Locations.{is_same}
@@ -18,7 +18,7 @@ use Rattle.substrate.specs.declared.record.Processing.TheVariants as processing
 use Rattle.substrate.specs.declared.registered.Registered.{Registered}
 use Rattle.substrate.proofs.Sites.{same_is}
 use Rattle.records.proofs.Truth.{not_true}
-use Rattle.tool_tasks.specs.declared.recipes.Recipe.{Recipe}
+use Rattle.tool_tasks.specs.Chambers.{has_chamber}
 use Rattle.process_job.specs.Jobs.{recipe_named}
 use Rattle.process_job.specs.declared.job.ProcessJob.{ProcessJob}
 use Rattle.floor_model.specs.declared.tracked.Substrate.{Substrate}
@@ -29,6 +29,7 @@ use Rattle.floor_moves.specs.Floor.{own, is_finished as is_finished_state}
 use Rattle.floor_moves.specs.Valid.{Empty}
 use Rattle.place_laws.specs.Picture.{picture, loc_of, numbered, chambers_in, of_one, of_job}
 use Rattle.place_laws.specs.Sound.{Base}
+use Rattle.place_laws.proofs.ChamberLists.{is_listed}
 use Rattle.place_laws.proofs.Holding.{found_among, kept_there, own_place, IsThere}
 use Rattle.floor_laws.proofs.IssueHeld.{found_so, found_any, none_any, IsHeld, HasKept, all_held}
 use Rattle.place_laws.proofs.Names.{same_loc}
@@ -46,45 +47,6 @@ finished_number processing.Stopped = refl
 finished_number processing.Rejected = refl
 finished_number processing.Lost = refl
 finished_number processing.Skipped = refl
-
--- ---- chambers of a recipe
-
--- what is so of each number from 1 to 8 is so of one of them
-pub one_to_eight : (P : ℕ → Type 0) → P 1 → P 2 → P 3 → P 4 → P 5 → P 6 → P 7 → P 8 → (c : ℕ) → 1 ≤ c → c ≤ 8 → P c
-one_to_eight P a b d e f g h i zero least most = absurd (omega (arith, least))
-one_to_eight P a b d e f g h i (suc zero) least most = a
-one_to_eight P a b d e f g h i (suc (suc zero)) least most = b
-one_to_eight P a b d e f g h i (suc (suc (suc zero))) least most = d
-one_to_eight P a b d e f g h i (suc (suc (suc (suc zero)))) least most = e
-one_to_eight P a b d e f g h i (suc (suc (suc (suc (suc zero))))) least most = f
-one_to_eight P a b d e f g h i (suc (suc (suc (suc (suc (suc zero)))))) least most = g
-one_to_eight P a b d e f g h i (suc (suc (suc (suc (suc (suc (suc zero))))))) least most = h
-one_to_eight P a b d e f g h i (suc (suc (suc (suc (suc (suc (suc (suc zero)))))))) least most = i
-one_to_eight P a b d e f g h i (suc (suc (suc (suc (suc (suc (suc (suc (suc c))))))))) least most = absurd (omega (arith, most))
-
--- the chambers that a recipe of these two has
-abbrev two_chambers : Bool → Bool → List ℕ
-two_chambers a b = (if a then 1 ∷ [] else []) ++ (if b then 2 ∷ [] else [])
-
-abbrev two_bits : Bool → Bool → ℕ
-two_bits a b = (if a then 1 else 0) + (if b then 2 else 0)
-
-abbrev TellsOne : Bool → Bool → ℕ → Type 0
-TellsOne a b c = has_chamber (two_bits a b) c ≡ true → is_one_of (two_chambers a b) c ≡ true
-
-no_bit : {A : Type 0} → false ≡ true → A
-no_bit e = absurd (cc)
-
--- a chamber of 1 to 8 whose bit is set is one of the recipe
-bit_tells : (a b : Bool) (c : ℕ) → 1 ≤ c → c ≤ 8 → TellsOne a b c
-bit_tells true true c least most = one_to_eight (TellsOne true true) (λ e. refl) (λ e. refl) no_bit no_bit no_bit no_bit no_bit no_bit c least most
-bit_tells true false c least most = one_to_eight (TellsOne true false) (λ e. refl) no_bit no_bit no_bit no_bit no_bit no_bit no_bit c least most
-bit_tells false true c least most = one_to_eight (TellsOne false true) no_bit (λ e. refl) no_bit no_bit no_bit no_bit no_bit no_bit c least most
-bit_tells false false c least most = one_to_eight (TellsOne false false) no_bit no_bit no_bit no_bit no_bit no_bit no_bit no_bit c least most
-
-chamber_tells : (o : Option Recipe) (c : ℕ) → 1 ≤ c → c ≤ 8 → has_chamber (chambers_of o) c ≡ true → is_one_of (chambers_in o) c ≡ true
-chamber_tells (Some r) c least most e = bit_tells r.chambers.one r.chambers.two c least most e
-chamber_tells None c least most e = one_to_eight (λ (n : ℕ). has_chamber 0 n ≡ true → is_one_of [] n ≡ true) no_bit no_bit no_bit no_bit no_bit no_bit no_bit no_bit c least most e
 
 -- ---- one view
 
@@ -140,7 +102,7 @@ module _ (f : ToolFloor) (b : Base f) where
 
       chambers_so : (o : Option ProcessJob) → of_one false (λ (j : ProcessJob). true) o ≡ true → (c : ℕ) → 1 ≤ c → c ≤ 8 → has_chamber (chambers_of (recipe_named (recipe_of o) f.jobs.process.recipes)) c ≡ true → is_one_of (chambers_said o) c ≡ true
       chambers_so None member c least most e = absurd (cc)
-      chambers_so (Some j) member c least most e = chamber_tells (recipe_named j.recipe f.jobs.process.recipes) c least most e
+      chambers_so (Some j) member c least most e = is_listed (chambers_of (recipe_named j.recipe f.jobs.process.recipes)) c (record { has = e; least = least; most = most })
 
   -- ---- all of them
 

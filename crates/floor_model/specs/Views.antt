@@ -1,5 +1,5 @@
 -- What the planner is told of the substrates (this tool's profile, moves).
-use Rattle.std.specs.Prelude.{ℕ, ◌+◌, if◌then◌else◌, List, [], ◌∷◌, ◌++◌, Option, Some, None}
+use Rattle.std.specs.Prelude.{ℕ, List, [], ◌∷◌, ◌++◌, Option, Some, None}
 use Rattle.substrate.specs.Places.{PlaceMap, is_any_at_work}
 use Rattle.substrate.specs.Record.{is_finished, is_in_process}
 use Rattle.substrate.specs.declared.registered.Registered.{Registered}
@@ -7,7 +7,6 @@ use Rattle.robot_moves.specs.Moves.{module_move}
 use Rattle.robot_moves.specs.declared.view.PlaceView.{PlaceView}
 use Rattle.robot_moves.specs.declared.view.Move.{Move}
 use Rattle.tool_tasks.specs.declared.recipes.Recipe.{Recipe}
-use Rattle.tool_tasks.specs.declared.recipes.RecipeChambers.{RecipeChambers}
 use Rattle.process_job.specs.Jobs.{recipe_named}
 use Rattle.process_job.specs.declared.job.ProcessJob.{ProcessJob}
 use Rattle.tool_jobs.specs.Jobs.{Jobs}
@@ -15,13 +14,10 @@ use Rattle.floor_model.specs.declared.tracked.Substrate.{Substrate}
 use Rattle.floor_model.specs.Jobs.{job_of, is_job_so, is_processing}
 use Rattle.floor_model.specs.Floor.{ToolFloor, substrate_numbered}
 
--- the chambers of a recipe as a set of bits, bit c - 1 for chamber c; none where there is no such recipe
-abbrev pub chamber_bits : RecipeChambers → ℕ
-chamber_bits c = (if c.one then 1 else 0) + (if c.two then 2 else 0)
-
+-- the set of the chambers of a recipe, none where there is no such recipe
 abbrev pub chambers_of : Option Recipe → ℕ
 chambers_of None = 0
-chambers_of (Some r) = chamber_bits r.chambers
+chambers_of (Some r) = r.chambers
 
 -- the name of the recipe of a process job, empty where there is none
 abbrev pub recipe_of : Option ProcessJob → List ℕ

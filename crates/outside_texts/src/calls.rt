@@ -31,10 +31,7 @@ impl Calls {
     pub fn new(alloc: Global) -> Result<Calls, AllocError> {
         let recipe = Recipe {
             name: text_of("R1"),
-            chambers: RecipeChambers {
-                one: true,
-                two: false,
-            },
+            chambers: RecipeChambers::to(1),
         };
         Ok(Calls {
             module: SimModule::without_failures(alloc, ModuleId(1)),

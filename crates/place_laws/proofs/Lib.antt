@@ -1,3 +1,4 @@
+pub mod ChamberLists
 pub mod Appended
 pub mod Stays
 pub mod SlotNames

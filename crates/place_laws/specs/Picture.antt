@@ -20,6 +20,8 @@ use Rattle.floor_model.specs.declared.tracked.Substrate.{Substrate}
 use Rattle.floor_model.specs.Floor.{ToolFloor, substrate_numbered, number_of}
 use Rattle.floor_model.specs.Modules.{number_named}
 use Rattle.floor_model.specs.Jobs.{job_of, is_any_of_carrier, is_processing, is_stopping, is_aborting}
+use Rattle.floor_model.specs.Views.{chambers_of}
+use Rattle.tool_tasks.specs.Chambers.{chamber_list}
 use Rattle.tool_tasks.specs.declared.recipes.Recipe.{Recipe}
 use Rattle.process_job.specs.Jobs.{recipe_named}
 use Rattle.process_job.specs.declared.job.ProcessJob.{ProcessJob}
@@ -107,8 +109,7 @@ numbers_from n (suc count) = n ∷ numbers_from (n + 1) count
 
 -- the chambers of a recipe, where there is one
 abbrev pub chambers_in : Option Recipe → List ℕ
-chambers_in None = []
-chambers_in (Some r) = (if r.chambers.one then 1 ∷ [] else []) ++ (if r.chambers.two then 2 ∷ [] else [])
+chambers_in o = chamber_list (chambers_of o)
 
 -- what is said of the process job of a substrate; else this, where it is in none
 abbrev pub of_job : {B : Type 0} → B → (ProcessJob → B) → Jobs → Substrate → B

@@ -1,9 +1,10 @@
 -- What the tool has its modules do next (this tool's profile, moves).
-use Rattle.std.specs.Prelude.{ℕ, zero, suc, ◌+◌, ◌-◌, ◌/◌, ◌%◌, ◌^◌, ◌==◌, nat_lt, Bool, false, not, ◌&&◌, ◌||◌, if◌then◌else◌, List, [], ◌∷◌, length, filter, find, Option, Some, None, is_some, option_map}
+use Rattle.std.specs.Prelude.{ℕ, zero, suc, ◌+◌, ◌-◌, ◌==◌, nat_lt, Bool, false, not, ◌&&◌, ◌||◌, if◌then◌else◌, List, [], ◌∷◌, length, filter, find, Option, Some, None, is_some, option_map}
 use Rattle.std.specs.List.{list_any}
 use Rattle.std.specs.Option.{option_or}
 use Rattle.gem_ids.specs.declared.numbers.LocId.{LocId}
 use Rattle.gem_ids.specs.declared.numbers.LocId.TheVariants.{Slot, Aligner, Arm, Chamber}
+use Rattle.tool_tasks.specs.Chambers.{has_chamber}
 use Rattle.tool_tasks.specs.declared.task.Task.{Task}
 use Rattle.tool_tasks.specs.declared.task.Task.TheVariants as task
 use Rattle.substrate.specs.Locations.{is_same}
@@ -35,10 +36,6 @@ is_free views modules (Slot p k) = is_empty (Slot p k) views
 is_free views modules Aligner = is_empty Aligner views && is_idle (module_at 2 modules)
 is_free views modules Arm = is_empty Arm views && is_idle (module_at 1 modules)
 is_free views modules (Chamber c) = is_empty (Chamber c) views && is_idle (module_at (chamber_module c) modules)
-
--- a set of chambers, of which bit c - 1 stands for chamber c, has this one
-abbrev pub has_chamber : ℕ → ℕ → Bool
-has_chamber chambers c = (chambers / 2 ^ (c - 1)) % 2 == 1
 
 -- a chamber, where it is of the substrate's recipe, empty and Idle
 abbrev pub chamber_where_free : List PlaceView → List Module → PlaceView → ℕ → Option ℕ

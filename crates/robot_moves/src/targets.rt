@@ -2,13 +2,14 @@
 
 ghost use Rattle.std.specs.Prelude.{◌≡◌, ◌≤◌, ◌&&◌};
 ghost use Rattle.robot_moves.specs.Modules.{module_at, chamber_module, is_idle};
-ghost use Rattle.robot_moves.specs.Moves.{is_empty, is_free, has_chamber, chamber_where_free, free_chamber, target, free_target, may_leave, is_useful};
+ghost use Rattle.robot_moves.specs.Moves.{is_empty, is_free, chamber_where_free, free_chamber, target, free_target, may_leave, is_useful};
 
 use crate::modules::Modules;
 use crate::view::PlaceView;
 use crate::whereabouts::Whereabouts;
 use gem_ids::{LocId, ModuleId};
 use substrate::is_same;
+use tool_tasks::has_chamber;
 
 pub(crate) const ROBOT: ModuleId = ModuleId(1);
 
@@ -96,15 +97,6 @@ fn chamber_where_free<P: Whereabouts>(
     } else {
         None
     }
-}
-
-// Whether a set of chambers has this one, 1 to 8.
-fn has_chamber(chambers: u8, c: u8) -> bool
-    requires first { 1 ≤ c }
-    requires last { c ≤ 8 }
-    ensures { result ≡ has_chamber chambers c }
-{
-    (chambers >> (c - 1)) % 2 == 1
 }
 
 /// Whether a location is empty and, if it is a module's, the module is Idle. Of a module that is not Idle nobody is asked who is

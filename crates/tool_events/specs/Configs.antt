@@ -1,13 +1,14 @@
 -- What a configuration may say (this tool's profile, configuration).
-use Rattle.std.specs.Prelude.{◌≡◌, ◌≤◌, ℕ, nat_le, Bool, true, ◌&&◌, ◌||◌, List, length}
-use Rattle.std.specs.List.{list_all}
+use Rattle.std.specs.Prelude.{◌≡◌, ◌≤◌, ℕ, nat_le, Bool, true, List, length}
+use Rattle.std.specs.List.{list_all, list_any}
 use Rattle.gem_ids.specs.Moments.{last_moment}
 use Rattle.tool_events.specs.declared.config.Config.{Config}
+use Rattle.tool_tasks.specs.Chambers.{last_chamber, chamber_list}
 use Rattle.tool_tasks.specs.declared.recipes.Recipe.{Recipe}
 
 -- a recipe has one of the chambers of a tool with so many (this tool's profile, configuration)
 abbrev pub is_usable : ℕ → Recipe → Bool
-is_usable chambers r = r.chambers.one && nat_le 1 chambers || r.chambers.two && nat_le 2 chambers
+is_usable chambers r = list_any (λ c. nat_le c chambers) (chamber_list r.chambers)
 
 -- each of these has
 abbrev pub are_usable : ℕ → List Recipe → Bool
@@ -21,7 +22,7 @@ pub record IsConfig (c : Config) : Type 0 where
   pub softrev_some : 1 ≤ length c.softrev
   pub softrev : length c.softrev ≤ 20
   pub chambers_some : 1 ≤ c.chambers
-  pub chambers : c.chambers ≤ 2
+  pub chambers : c.chambers ≤ last_chamber
   pub ports_some : 1 ≤ c.ports
   pub ports : c.ports ≤ 2
   pub spool_some : 1 ≤ c.spool_capacity

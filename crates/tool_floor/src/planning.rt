@@ -6,7 +6,7 @@ ghost use Rattle.robot_moves.specs.Modules.{module_at};
 ghost use Rattle.robot_moves.specs.Moves.{next_move};
 ghost use Rattle.floor_model.specs.Floor.{module_numbers};
 ghost use Rattle.floor_model.specs.Jobs.{job_of, is_job_so, is_processing};
-ghost use Rattle.floor_model.specs.Views.{chamber_bits, chambers_of, recipe_of, view_of, views, planned};
+ghost use Rattle.floor_model.specs.Views.{chambers_of, recipe_of, view_of, views, planned};
 ghost use Rattle.floor_model.specs.Modules.{is_by, move_ready, move_starts};
 
 use crate::floor::ToolFloor;
@@ -18,21 +18,14 @@ use process_job::{JobState, ProcessJob};
 use robot_moves::{Module, Move, PlaceView, Planner};
 use substrate::Registered;
 use tool_jobs::Jobs;
-use tool_tasks::{Recipe, RecipeChambers};
+use tool_tasks::Recipe;
 
-// The chambers of a recipe as a set of bits.
-fn chamber_bits(chambers: RecipeChambers) -> u8
-    ensures { result ≡ chamber_bits chambers }
-{
-    (if chambers.one { 1 } else { 0 }) + (if chambers.two { 2 } else { 0 })
-}
-
-// The chambers of a recipe, none where there is none.
+// The set of the chambers of a recipe, none where there is none.
 fn chambers_of(recipe: Option<Recipe>) -> u8
     ensures { result ≡ chambers_of recipe }
 {
     match recipe {
-        Some(recipe) => chamber_bits(recipe.chambers),
+        Some(recipe) => recipe.chambers.bits(),
         None => 0,
     }
 }

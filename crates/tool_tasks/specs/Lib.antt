@@ -1,1 +1,2 @@
+pub mod Chambers
 pub mod Recipes

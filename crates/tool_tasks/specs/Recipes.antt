@@ -1,12 +1,12 @@
 -- How the recipes of a configuration lie in their 32 places.
-use Rattle.std.specs.Prelude.{◌≡◌, ℕ, ◌-◌, ◌≤◌, List, [], ◌++◌, length, take, drop, replicate, false}
+use Rattle.std.specs.Prelude.{◌≡◌, ℕ, ◌-◌, ◌≤◌, List, [], ◌++◌, length, take, drop, replicate}
 use Rattle.std.proofs.Common.{arith}
 use Rattle.std.proofs.lemmas.List.{take-append-drop, length-take-le}
 use Rattle.tool_tasks.specs.declared.recipes.Recipe.{Recipe}
 
 -- what stands in a place without a recipe: no name and no chamber
 abbrev pub blank : Recipe
-blank = record { name = []; chambers = record { one = false; two = false } }
+blank = record { name = []; chambers = 0 }
 
 -- the first places have the recipes, and the places behind them are blank
 pub record HoldsRecipes (recipes : List Recipe) (count : ℕ) : Type 0 where

@@ -4,10 +4,12 @@
 //! anything. Begin with `Task`, and with `Recipes`, of which a configuration has a list.
 #![tactic(auto)]
 
+mod chambers;
 mod recipes;
 mod task;
 mod words;
 
-pub use recipes::{Recipe, RecipeChambers, Recipes};
+pub use chambers::{RecipeChambers, has_chamber};
+pub use recipes::{Recipe, Recipes};
 pub use task::{Command, Task};
 pub use words::JobWord;

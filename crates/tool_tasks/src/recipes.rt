@@ -1,17 +1,8 @@
 ghost use Rattle.std.specs.Prelude.{◌≡◌, ◌↔◌, ◌<◌, ◌≤◌, [], ◌∷◌, ◌++◌, length, IsTrue};
 
+use crate::chambers::RecipeChambers;
 use gem_ids::Text80;
 use std::marker::Model;
-
-/// The chambers of a recipe (this tool's profile, configuration): the key `chambers` of a recipe, a list of distinct
-/// numbers of the tool's chambers. A chamber of the list is true here.
-#[derive(Clone, Copy)]
-pub struct RecipeChambers {
-    /// Chamber 1.
-    pub one: bool,
-    /// Chamber 2.
-    pub two: bool,
-}
 
 /// A recipe (this tool's profile, configuration).
 #[derive(Clone, Copy)]
@@ -53,10 +44,7 @@ impl Recipes {
     {
         let blank = Recipe {
             name: Text80::empty(),
-            chambers: RecipeChambers {
-                one: false,
-                two: false,
-            },
+            chambers: RecipeChambers::none(),
         };
         Recipes {
             recipes: [blank; 32],

@@ -1,9 +1,11 @@
 -- The recipe of each substrate in a process job has a chamber of the tool.
-use Rattle.std.proofs.Common.{◌≡◌, ◌≤◌, ℕ, nat_le, Bool, true, false, ◌||◌, ◌&&◌, if◌then◌else◌, List, [], ◌∷◌, ◌++◌, Option, Some, None, refl, arith}
+use Rattle.std.proofs.Common.{◌≡◌, ◌≤◌, ◌==◌, ℕ, nat_le, Bool, true, false, ◌||◌, if◌then◌else◌, List, [], ◌∷◌, ◌++◌, Option, Some, None, refl, arith}
+use Rattle.std.specs.List.{list_any}
 use Rattle.std.specs.Str.{bytes_eq}
-use Rattle.std.proofs.lemmas.Bool.{and_parts}
+use Rattle.std.proofs.lemmas.Bool.{and_parts, or_left, or_right}
 use Rattle.std.proofs.lemmas.Bool.Decides.{nat_tests}
 use Rattle.gem_tables.specs.Table.{is_one_of}
+use Rattle.tool_tasks.specs.Chambers.{chamber_list}
 use Rattle.tool_tasks.specs.declared.recipes.Recipe.{Recipe}
 use Rattle.process_job.specs.Creating.{is_recipe}
 use Rattle.process_job.specs.Jobs.{has_number, recipe_named}
@@ -13,6 +15,7 @@ use Rattle.floor_model.specs.Floor.{ToolFloor, substrate_numbered}
 use Rattle.floor_model.specs.Jobs.{job_of}
 use Rattle.floor_moves.specs.Valid.{HaveChambers}
 use Rattle.place_laws.specs.Picture.{picture, numbers_from, chambers_in, of_one, of_job}
+use Rattle.place_laws.proofs.ChamberLists.{is_chosen}
 use Rattle.floor_laws.proofs.IssueTargets.{among_numbers}
 use Rattle.tool_events.specs.Configs.{is_usable, are_usable}
 use Rattle.work_laws.specs.Equipped.{HasRecipe, Equipped}
@@ -22,31 +25,29 @@ use Rattle.place_laws.proofs.Names.{each_found}
 abbrev Reaches : ℕ → List ℕ → Type 0
 Reaches count cs = (c : ℕ) × (is_one_of cs c ≡ true) × (is_one_of (numbers_from 1 count) c ≡ true)
 
--- a tool with so many has chamber 1, and chamber 2
-has_first : (count : ℕ) → 1 ≤ count → is_one_of (numbers_from 1 count) 1 ≡ true
-has_first count least = among_numbers 1 count 1 (omega arith) (omega (arith, least))
-
-has_second : (count : ℕ) → 2 ≤ count → is_one_of (numbers_from 1 count) 2 ≡ true
-has_second count least = among_numbers 1 count 2 (omega arith) (omega (arith, least))
-
-at_least : (n count : ℕ) → nat_le n count ≡ true → n ≤ count
-at_least n count e = grind (arith, nat_tests)
+-- some number of a list is so, where any is
+any_one : (test : ℕ → Bool) (ns : List ℕ) → list_any test ns ≡ true → (n : ℕ) × (is_one_of ns n ≡ true) × (test n ≡ true)
+any_one test [] e = absurd (cc)
+any_one test (n ∷ ns) e = of (test n) refl e (any_one test ns) where
+  of : (b : Bool) → test n ≡ b → (b || list_any test ns) ≡ true → (list_any test ns ≡ true → (m : ℕ) × (is_one_of ns m ≡ true) × (test m ≡ true)) → (m : ℕ) × (is_one_of (n ∷ ns) m ≡ true) × (test m ≡ true)
+  of true q e rest = (n, or_left (n == n) (is_one_of ns n) (grind (arith, nat_tests)), q)
+  of false q e rest = let w = rest e in (w.0, or_right (n == w.0) (is_one_of ns w.0) w.1, w.2)
 
 -- a recipe with a chamber of the tool reaches one
-usable_reaches : (count : ℕ) (a b : Bool) → (a && nat_le 1 count || b && nat_le 2 count) ≡ true → Reaches count ((if a then 1 ∷ [] else []) ++ (if b then 2 ∷ [] else []))
-usable_reaches count true b e = (1, refl, has_first count (of (nat_le 1 count) refl e)) where
-  of : (x : Bool) → nat_le 1 count ≡ x → (x || b && nat_le 2 count) ≡ true → 1 ≤ count
-  of true q e = at_least 1 count q
-  of false q e = let two = at_least 2 count (and_parts b (nat_le 2 count) e).1 in omega (arith, two)
-usable_reaches count false true e = (2, refl, has_second count (at_least 2 count e))
-usable_reaches count false false e = absurd (cc)
+usable_reaches : (count set : ℕ) → list_any (λ c. nat_le c count) (chamber_list set) ≡ true → Reaches count (chamber_list set)
+usable_reaches count set e =
+    let w = any_one (λ c. nat_le c count) (chamber_list set) e in
+    let few = w.2 in
+    let most : w.0 ≤ count = grind (arith, nat_tests, few) in
+    let chosen = is_chosen set w.0 w.1 in
+    (w.0, w.1, among_numbers 1 count w.0 chosen.least (omega (arith, most)))
 
 -- one of its name is found among the recipes, and is usable
 recipe_reaches : (count : ℕ) (name : List ℕ) (rs : List Recipe) → is_recipe name rs ≡ true → are_usable count rs ≡ true → Reaches count (chambers_in (recipe_named name rs))
 recipe_reaches count name [] known usable = absurd (cc)
 recipe_reaches count name (r ∷ rs) known usable =
     let parts = and_parts (is_usable count r) (are_usable count rs) usable in
-    of (bytes_eq r.name name) known (usable_reaches count r.chambers.one r.chambers.two parts.0) (λ later. recipe_reaches count name rs later parts.1)
+    of (bytes_eq r.name name) known (usable_reaches count r.chambers parts.0) (λ later. recipe_reaches count name rs later parts.1)
   where
     of : (b : Bool) → (b || is_recipe name rs) ≡ true → Reaches count (chambers_in (Some r)) → (is_recipe name rs ≡ true → Reaches count (chambers_in (recipe_named name rs))) → Reaches count (chambers_in (if b then Some r else recipe_named name rs))
     of true e here rest = here

@@ -8,7 +8,8 @@ use Rattle.gem_tables.specs.Table.{is_one_of}
 use Rattle.gem_ids.specs.declared.numbers.LocId.{LocId}
 use Rattle.gem_ids.specs.declared.numbers.LocId.TheVariants.{Slot, Aligner, Arm, Chamber}
 use Rattle.robot_moves.specs.Modules.{module_at, is_idle, chamber_module}
-use Rattle.robot_moves.specs.Moves.{first_of, holder, is_empty, is_free, has_chamber, chamber_where_free, free_chamber, where_free, free_target, may_leave, is_useful}
+use Rattle.tool_tasks.specs.Chambers.{has_chamber}
+use Rattle.robot_moves.specs.Moves.{first_of, holder, is_empty, is_free, chamber_where_free, free_chamber, where_free, free_target, may_leave, is_useful}
 use Rattle.robot_moves.specs.declared.module.Module.{Module as ToolModule}
 use Rattle.robot_moves.specs.declared.view.PlaceView.{PlaceView}
 use Rattle.substrate.specs.Locations.{is_same}

@@ -1,16 +1,13 @@
 -- What the planner is told of a substrate is what the floor by numbers says of it: its chambers, and that it isn't IN PROCESS.
-use Rattle.std.proofs.Common.{◌≡◌, ◌≤◌, ℕ, ◌+◌, ◌==◌, Bool, true, false, if◌then◌else◌, List, [], ◌∷◌, ◌++◌, Option, Some, None, option_map, refl, sym, ◌∙◌, ap, subst, arith}
+use Rattle.std.proofs.Common.{◌≡◌, ℕ, ◌==◌, Bool, true, false, List, [], ◌∷◌, ◌++◌, Option, Some, None, option_map, refl, sym, ◌∙◌, ap, subst, arith}
 use Rattle.std.specs.List.{AllByRecursion}
 use Rattle.gem_tables.specs.Table.{is_one_of}
-use Rattle.gem_tables.proofs.Rows.{one_of_cases}
-use Rattle.robot_moves.specs.Moves.{has_chamber}
 use Rattle.robot_moves.specs.declared.view.PlaceView.{PlaceView}
 use Rattle.substrate.specs.Record.{is_in_process}
 use Rattle.substrate.specs.Tables.{processing_number}
 use Rattle.substrate.specs.declared.record.Processing.{Processing}
 use Rattle.substrate.specs.declared.record.Processing.TheVariants as processing
 use Rattle.substrate.specs.declared.registered.Registered.{Registered}
-use Rattle.tool_tasks.specs.declared.recipes.Recipe.{Recipe}
 use Rattle.process_job.specs.Jobs.{recipe_named}
 use Rattle.process_job.specs.declared.job.ProcessJob.{ProcessJob}
 use Rattle.floor_model.specs.declared.tracked.Substrate.{Substrate}
@@ -19,29 +16,8 @@ use Rattle.floor_model.specs.Jobs.{job_of}
 use Rattle.floor_model.specs.Views.{chambers_of, recipe_of, view_of, view_in, views_of, views}
 use Rattle.place_laws.specs.Picture.{picture, numbered, number_or_none, chambers_in, of_one, of_job}
 use Rattle.place_laws.specs.Sound.{Base}
+use Rattle.place_laws.proofs.ChamberLists.{IsChosen, is_chosen}
 use Rattle.floor_laws.proofs.IssueHeld.{IsHeld, HasKept, all_held}
-
--- ---- the chambers of a recipe
-
--- a chamber is one of those that a set of bits has, and is one of 1 to 8
-abbrev pub IsChosen : ℕ → ℕ → Type 0
-IsChosen bits c = record {
-  has : has_chamber bits c ≡ true;
-  least : 1 ≤ c;
-  most : c ≤ 8;
-}
-
--- so is each chamber that a recipe of these two has
-two_chosen : (a b : Bool) (c : ℕ) → is_one_of ((if a then 1 ∷ [] else []) ++ (if b then 2 ∷ [] else [])) c ≡ true → IsChosen ((if a then 1 else 0) + (if b then 2 else 0)) c
-two_chosen true true c e =
-    one_of_cases (IsChosen 3) (1 ∷ 2 ∷ []) c (record { has = refl; least = omega arith; most = omega arith }, (record { has = refl; least = omega arith; most = omega arith }, tt)) e
-two_chosen true false c e = one_of_cases (IsChosen 1) (1 ∷ []) c (record { has = refl; least = omega arith; most = omega arith }, tt) e
-two_chosen false true c e = one_of_cases (IsChosen 2) (2 ∷ []) c (record { has = refl; least = omega arith; most = omega arith }, tt) e
-two_chosen false false c e = absurd (cc)
-
-recipe_chosen : (o : Option Recipe) (c : ℕ) → is_one_of (chambers_in o) c ≡ true → IsChosen (chambers_of o) c
-recipe_chosen None c e = absurd (cc)
-recipe_chosen (Some r) c e = two_chosen r.chambers.one r.chambers.two c e
 
 -- ---- states of processing
 
@@ -85,7 +61,7 @@ module _ (f : ToolFloor) (b : Base f) where
 
     of : (c : ℕ) (o : Option ProcessJob) → is_one_of (its_chambers o) c ≡ true → IsChosen (chambers_of (recipe_named (recipe_of o) f.jobs.process.recipes)) c
     of c None e = absurd (cc)
-    of c (Some j) e = recipe_chosen (recipe_named j.recipe f.jobs.process.recipes) c e
+    of c (Some j) e = is_chosen (chambers_of (recipe_named j.recipe f.jobs.process.recipes)) c e
 
   -- each of them does
   all_tell : (rs : List Registered) → AllByRecursion (HasKept f) rs → AllByRecursion (Tells f) (views_of f.jobs f.substrates rs)

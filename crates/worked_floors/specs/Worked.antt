@@ -33,6 +33,7 @@ use Rattle.substrate.specs.declared.record.Processing.TheVariants.{NeedsProcessi
 use Rattle.substrate.specs.declared.record.LocationRecord.{LocationRecord}
 use Rattle.robot_moves.specs.Modules.{first_modules}
 use Rattle.robot_moves.specs.declared.module.Module.TheVariants.{Busy, Down}
+use Rattle.tool_tasks.specs.Chambers.{chambers_to}
 use Rattle.tool_tasks.specs.declared.recipes.Recipe.{Recipe}
 use Rattle.tool_jobs.specs.Jobs.{no_jobs}
 use Rattle.floor_model.specs.declared.tracked.Substrate.{Substrate}
@@ -45,7 +46,7 @@ use Rattle.floor_model.specs.Signals.{at_module, done_rows, closing_rows, lost_r
 
 -- the recipe of the tool, by which both chambers process
 abbrev pub recipes : List Recipe
-recipes = record { name = codes "R1"; chambers = record { one = true; two = true } } ∷ []
+recipes = record { name = codes "R1"; chambers = chambers_to 2 } ∷ []
 
 -- the name of the substrate
 abbrev pub wafer : List ℕ

@@ -506,7 +506,8 @@ removed_once g n e h given none (stays same) = same ∙ none
 removed_once g n e h given none (is_registered p k fresh now before behind) = absurd (omega (arith, given, fresh))
 removed_once g n e h given none (goes_with_carrier port k is before behind) = behind
 removed_once g n e h given none (is_lost sub is named behind) = behind
-removed_once g n e h given none _ = absurd (cc)
+removed_once g n e h given none (by_pick m c sub from is has what named before behind) = absurd (cc)
+removed_once g n e h given none (by_place m c sub to is has what named before behind) = absurd (cc)
 
 removed_on : (n : ℕ) (g : State) (entries : List Entry) (h : State) → Run g entries h → EachMoves g entries → n ≤ g.floor.places.given → place_of n g ≡ None → place_of n h ≡ None
 removed_on n g [] h run each given none = subst (λ (k : State). place_of n k ≡ None) (sym run) none

@@ -8,19 +8,19 @@ use Rattle.floor_moves.specs.Agree.{Agree}
 
 module _ (g h : Floor) (a : Agree g h) where
   -- a place in the one is that in the other
-  place_back : (n : ℕ) (p : Option Loc) → h.place_of n ≡ p → g.place_of n ≡ p
+  pub place_back : (n : ℕ) (p : Option Loc) → h.place_of n ≡ p → g.place_of n ≡ p
   place_back n p e = sym (a.place_of n) ∙ e
 
   place_on : (n : ℕ) (p : Option Loc) → g.place_of n ≡ p → h.place_of n ≡ p
   place_on n p e = a.place_of n ∙ e
 
-  busy_back : (m : ℕ) (x : Module) → h.equipment m ≡ x → g.equipment m ≡ x
+  pub busy_back : (m : ℕ) (x : Module) → h.equipment m ≡ x → g.equipment m ≡ x
   busy_back m x e = sym (a.equipment m) ∙ e
 
   busy_on : (m : ℕ) (x : Module) → g.equipment m ≡ x → h.equipment m ≡ x
   busy_on m x e = a.equipment m ∙ e
 
-  kept_back : (n : ℕ) → is_one_of h.substrates n ≡ true → is_one_of g.substrates n ≡ true
+  pub kept_back : (n : ℕ) → is_one_of h.substrates n ≡ true → is_one_of g.substrates n ≡ true
   kept_back n e = sym (ap (λ (ns : List ℕ). is_one_of ns n) a.substrates) ∙ e
 
   kept_on : (n : ℕ) → is_one_of g.substrates n ≡ true → is_one_of h.substrates n ≡ true
@@ -35,7 +35,7 @@ module _ (g h : Floor) (a : Agree g h) where
   own_same : (n : ℕ) → is_one_of g.substrates n ≡ true → own n h ≡ own n g
   own_same n kept = ap (λ (p : ℕ). slot p (h.slot_of n)) (a.port_of n kept) ∙ ap (λ (k : ℕ). slot (g.port_of n) k) (a.slot_of n kept)
 
-  finished_same : (n : ℕ) → is_one_of g.substrates n ≡ true → is_finished (h.processing n) ≡ is_finished (g.processing n)
+  pub finished_same : (n : ℕ) → is_one_of g.substrates n ≡ true → is_finished (h.processing n) ≡ is_finished (g.processing n)
   finished_same n kept = ap is_finished (a.processing n kept)
 
   room_on : (n : ℕ) → is_one_of g.substrates n ≡ true → HasRoom n g → HasRoom n h

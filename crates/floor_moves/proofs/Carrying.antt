@@ -1,6 +1,6 @@
 -- What happens to carriers keeps what holds, and so does what process jobs say.
 use Rattle.std.proofs.Common.{◌≡◌, ◌≤◌, ℕ, ◌==◌, Bool, true, false, not, ◌&&◌, Option, Some, None, cond, refl, sym, ap, subst, ◌∙◌, ◌⊎◌, inl, inr, arith}
-use Rattle.std.proofs.lemmas.Bool.{false_from_ne_true}
+use Rattle.std.proofs.lemmas.Bool.{false_from_ne_true, not-true}
 use Rattle.std.proofs.lemmas.Bool.Decides.{Decides-eqb, not_from_Decides}
 use Rattle.gem_tables.specs.Table.{is_one_of}
 use Rattle.floor_moves.specs.Floor.{Loc, slot, aligner, arm, chamber, Task, pick, place, align, process, named, Command, busy, idle, JobView, Floor, opening, is_outside, is_finished}
@@ -13,7 +13,7 @@ use Rattle.floor_moves.proofs.Promised.{no_member}
 
 -- ---- the beginning
 
-abbrev IsOne : ℕ → Type 0
+abbrev pub IsOne : ℕ → Type 0
 IsOne k = k ≡ 1
 
 pub opening-valid : (chambers : _) → Valid (opening chambers)
@@ -226,11 +226,7 @@ module _ (g : Floor) (v : Valid g) (c : ℕ) (ends : HasEnded c g) where
 
   -- what is kept was, and is another carrier's
   was_kept : (n : ℕ) → is_one_of rest.substrates n ≡ true → (is_one_of g.substrates n ≡ true) × (g.carrier_of n ≡ c → ⊥)
-  was_kept n kept = let w = filter_tells (λ n. not (g.carrier_of n == c)) g.substrates n kept in (w.0, not_from_Decides (g.carrier_of n == c) (Decides-eqb (g.carrier_of n) c) (flip (g.carrier_of n == c) w.1))
-    where
-      flip : (b : Bool) → not b ≡ true → b ≡ false
-      flip true e = sym e
-      flip false e = cc
+  was_kept n kept = let w = filter_tells (λ n. not (g.carrier_of n == c)) g.substrates n kept in (w.0, not_from_Decides (g.carrier_of n == c) (Decides-eqb (g.carrier_of n) c) (not-true (g.carrier_of n == c) w.1))
 
   was_present : (d p : ℕ) → rest.present_at d ≡ Some p → (d ≡ c → ⊥) × (g.present_at d ≡ Some p)
   was_present d p a = by (set_tells c d None g.present_at (Some p) a)

@@ -8,6 +8,7 @@ use Rattle.floor_moves.proofs.Columns.{WorkBut, MayWork, but-worked-keeps}
 use Rattle.floor_moves.proofs.Issuing.{left_open, turned-but}
 use Rattle.floor_moves.proofs.Facts.{outside_not_done, picked_not_done}
 use Rattle.floor_moves.proofs.Moving.{idle_not_busy, stays_empty, moved_places, moved_commands, moved_members, moved_work}
+use Rattle.floor_moves.proofs.Carrying.{IsOne}
 
 -- ---- Done of a Pick
 
@@ -203,9 +204,6 @@ but_left_out g n other b = record {
 }
 
 -- ---- a substrate is lost
-
-abbrev IsOne : ℕ → Type 0
-IsOne k = k ≡ 1
 
 pub lost-keeps : (g : Floor) (n : ℕ) → is_outside (g.place_of n) ≡ true → IsUnnamed n g → Valid g → Valid (lost n g)
 lost-keeps g n out unnamed v = record {

@@ -13,21 +13,10 @@ is_number n m e = (Decides-eqb n m).0 e
 
 pub loc_same : (l m : Loc) → is_same l m ≡ true → l ≡ m
 loc_same (slot p n) (slot q m) e = let parts = and_parts (p == q) (n == m) e in let a = is_number p q parts.0 in let b = is_number n m parts.1 in cc
-loc_same (slot p n) aligner e = absurd (cc)
-loc_same (slot p n) arm e = absurd (cc)
-loc_same (slot p n) (chamber c) e = absurd (cc)
-loc_same aligner (slot p n) e = absurd (cc)
 loc_same aligner aligner e = refl
-loc_same aligner arm e = absurd (cc)
-loc_same aligner (chamber c) e = absurd (cc)
-loc_same arm (slot p n) e = absurd (cc)
-loc_same arm aligner e = absurd (cc)
 loc_same arm arm e = refl
-loc_same arm (chamber c) e = absurd (cc)
-loc_same (chamber c) (slot p n) e = absurd (cc)
-loc_same (chamber c) aligner e = absurd (cc)
-loc_same (chamber c) arm e = absurd (cc)
 loc_same (chamber c) (chamber d) e = ap (λ (k : ℕ). chamber k) (is_number c d e)
+loc_same _ _ e = absurd (cc)
 
 same_number : (n : ℕ) → (n == n) ≡ true
 same_number n = (Decides-eqb n n).1 refl

@@ -7,9 +7,7 @@ use Rattle.floor_moves.specs.Carriers.{registered, MayRegister}
 use Rattle.floor_moves.specs.Valid.{Empty, HasRoom, Places, Carriers, Commands, Members, Valid}
 use Rattle.floor_moves.proofs.Maps.{set_tells, set_here, set_else, set_both}
 use Rattle.floor_moves.proofs.Scans.{one_of_behind, one_of_front, one_of_last, distinct_behind}
-
-abbrev IsOne : ℕ → Type 0
-IsOne k = k ≡ 1
+use Rattle.floor_moves.proofs.Carrying.{IsOne}
 
 module _ (g : Floor) (v : Valid g) (c p k : ℕ) (may : MayRegister c p k g) where
   -- the number of the new substrate

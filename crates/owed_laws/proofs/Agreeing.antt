@@ -1,31 +1,20 @@
 -- What is owed, and what stands undisturbed, is said of what is kept.
 use Rattle.std.proofs.Common.{◌≡◌, ◌≤◌, ℕ, Bool, true, List, filter, Option, sym, ap, subst, ◌∙◌}
 use Rattle.gem_tables.specs.Table.{is_one_of}
-use Rattle.floor_moves.specs.Floor.{Loc, slot, arm, chamber, Module, Floor, is_finished}
+use Rattle.floor_moves.specs.Floor.{Loc, slot, arm, chamber, Floor, is_finished}
 use Rattle.floor_moves.specs.Sums.{sum_of}
 use Rattle.floor_moves.specs.Valid.{Valid}
 use Rattle.floor_moves.specs.Agree.{Agree}
 use Rattle.owed_laws.specs.Owed.{owed_at, owed, owed_to, number_of}
 use Rattle.owed_laws.specs.Undisturbed.{AreUnaligned, Undisturbed, AreInProcess}
 use Rattle.owed_laws.proofs.Totals.{sum_same}
+use Rattle.floor_moves.proofs.Agreeing.{place_back, busy_back, kept_back, finished_same}
 
 module _ (g h : Floor) (a : Agree g h) where
-  place_back : (n : ℕ) (p : Option Loc) → h.place_of n ≡ p → g.place_of n ≡ p
-  place_back n p e = sym (a.place_of n) ∙ e
-
-  busy_back : (m : ℕ) (x : Module) → h.equipment m ≡ x → g.equipment m ≡ x
-  busy_back m x e = sym (a.equipment m) ∙ e
-
-  kept_back : (n : ℕ) → is_one_of h.substrates n ≡ true → is_one_of g.substrates n ≡ true
-  kept_back n e = sym (ap (λ (ns : List ℕ). is_one_of ns n) a.substrates) ∙ e
-
-  finish_same : (n : ℕ) → is_one_of g.substrates n ≡ true → is_finished (h.processing n) ≡ is_finished (g.processing n)
-  finish_same n kept = ap is_finished (a.processing n kept)
-
   owed_same : (n : ℕ) → is_one_of g.substrates n ≡ true → owed h n ≡ owed g n
   owed_same n kept =
       ap (λ (p : Option Loc). owed_at p (is_finished (h.processing n)) (h.is_aligned n)) (a.place_of n)
-      ∙ ap (λ (f : Bool). owed_at (g.place_of n) f (h.is_aligned n)) (finish_same n kept)
+      ∙ ap (λ (f : Bool). owed_at (g.place_of n) f (h.is_aligned n)) (finished_same g h a n kept)
       ∙ ap (λ (b : Bool). owed_at (g.place_of n) (is_finished (g.processing n)) b) (a.is_aligned n kept)
 
   pub agree-owed : (counted : ℕ → Bool) → owed_to counted h ≡ owed_to counted g
@@ -37,13 +26,13 @@ module _ (g h : Floor) (a : Agree g h) where
 
   pub agree-unaligned : Valid g → AreUnaligned g → AreUnaligned h
   agree-unaligned v u n p k at f =
-      let was = place_back n _ at in
+      let was = place_back g h a n _ at in
       let kept = v.places.kept n (slot p k) was in
-      a.is_aligned n kept ∙ u n p k was (sym (finish_same n kept) ∙ f)
+      a.is_aligned n kept ∙ u n p k was (sym (finished_same g h a n kept) ∙ f)
 
   pub agree-in_process : Valid g → AreInProcess g → AreInProcess h
   agree-in_process v working m n c is t =
-      let was = busy_back m _ is in
+      let was = busy_back g h a m _ is in
       let s = v.commands.processes m n c was t in
       a.processing n (v.places.kept n (chamber s.0) s.2) ∙ working m n c was t
 
@@ -53,15 +42,15 @@ module _ (g h : Floor) (a : Agree g h) where
       members = λ n is. u.jobs.members n (sym (a.jobs.is_member n) ∙ is);
       not_stopping = λ n. a.jobs.is_stopping n ∙ u.jobs.not_stopping n;
       not_aborting = λ n. a.jobs.is_aborting n ∙ u.jobs.not_aborting n;
-      named = λ n kept is f. let i = kept_back n kept in
-          ap h.jobs.names_carrier (a.carrier_of n i) ∙ a.jobs.names_carrier (g.carrier_of n) (g.port_of n) (v.carriers.present n i) ∙ u.jobs.named n i is (sym (finish_same n i) ∙ f);
+      named = λ n kept is f. let i = kept_back g h a n kept in
+          ap h.jobs.names_carrier (a.carrier_of n i) ∙ a.jobs.names_carrier (g.carrier_of n) (g.port_of n) (v.carriers.present n i) ∙ u.jobs.named n i is (sym (finished_same g h a n i) ∙ f);
     };
     substrates = record {
-      here = λ n kept is f. let i = kept_back n kept in subst (λ (k : ℕ). k ≤ 1) (sym (access_same n i)) (u.substrates.here n i is (sym (finish_same n i) ∙ f));
-      finished = λ n kept is f. let i = kept_back n kept in a.is_aligned n i ∙ u.substrates.finished n i is (sym (finish_same n i) ∙ f);
-      in_chamber = λ n c at. let was = place_back n _ at in a.is_aligned n (v.places.kept n (chamber c) was) ∙ u.substrates.in_chamber n c was;
+      here = λ n kept is f. let i = kept_back g h a n kept in subst (λ (k : ℕ). k ≤ 1) (sym (access_same n i)) (u.substrates.here n i is (sym (finished_same g h a n i) ∙ f));
+      finished = λ n kept is f. let i = kept_back g h a n kept in a.is_aligned n i ∙ u.substrates.finished n i is (sym (finished_same g h a n i) ∙ f);
+      in_chamber = λ n c at. let was = place_back g h a n _ at in a.is_aligned n (v.places.kept n (chamber c) was) ∙ u.substrates.in_chamber n c was;
       in_slot = agree-unaligned v u.substrates.in_slot;
-      to_chamber = λ m n c d e t. let was = busy_back m _ e in finish_same n (v.places.kept n arm (v.commands.places m n (chamber c) d was t).stands) ∙ u.substrates.to_chamber m n c d was t;
+      to_chamber = λ m n c d e t. let was = busy_back g h a m _ e in finished_same g h a n (v.places.kept n arm (v.commands.places m n (chamber c) d was t).stands) ∙ u.substrates.to_chamber m n c d was t;
       not_given = λ n less. u.substrates.not_given n (subst (λ (k : ℕ). k ≤ n) a.next_substrate less);
     };
   } where

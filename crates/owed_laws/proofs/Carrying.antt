@@ -1,8 +1,8 @@
 -- A registration, and a carrier that is forgotten, leave what stands undisturbed, and as much is owed.
 use Rattle.std.proofs.Common.{◌≡◌, ◌≤◌, ℕ, ◌==◌, Bool, true, false, not, Option, Some, None, cond, refl, sym, ap, subst, ◌∙◌, ◌⊎◌, inl, inr, arith}
-use Rattle.std.proofs.lemmas.Bool.{false_from_ne_true}
+use Rattle.std.proofs.lemmas.Bool.{false_from_ne_true, not-false, not-true}
 use Rattle.gem_tables.specs.Table.{is_one_of}
-use Rattle.floor_moves.specs.Floor.{Loc, slot, aligner, arm, chamber, Floor, is_outside, is_finished}
+use Rattle.floor_moves.specs.Floor.{Loc, slot, arm, chamber, Floor, is_outside, is_finished}
 use Rattle.floor_moves.specs.Carriers.{registered, forgotten, HasEnded}
 use Rattle.floor_moves.specs.Valid.{Valid}
 use Rattle.floor_moves.proofs.Maps.{set_tells, set_else, set_both}
@@ -85,9 +85,7 @@ module _ (counted : ℕ → Bool) (g : Floor) (v : Valid g) (u : Undisturbed cou
 pub inside_owes : (p : Option Loc) (aligned : Bool) → is_outside p ≡ false → owed_at p true aligned ≡ 0
 inside_owes None aligned e = refl
 inside_owes (Some (slot x k)) aligned e = refl
-inside_owes (Some aligner) aligned e = absurd (cc)
-inside_owes (Some arm) aligned e = absurd (cc)
-inside_owes (Some (chamber d)) aligned e = absurd (cc)
+inside_owes _ aligned e = absurd (cc)
 
 module _ (counted : ℕ → Bool) (g : Floor) (v : Valid g) (u : Undisturbed counted g) (c : ℕ) (ends : HasEnded c g) where
   abbrev pub left : Floor
@@ -143,14 +141,6 @@ module _ (counted : ℕ → Bool) (g : Floor) (v : Valid g) (u : Undisturbed cou
       };
     },
     sum_left counted remains (owed g) (owed left) g.substrates
-        (λ n kept is t. ap (λ (x : Option Loc). owed_at x (is_finished (g.processing n)) (g.is_aligned n)) (ap (λ (b : Bool). cond b None (g.place_of n)) (other (g.carrier_of n == c) t)))
-        (λ n kept is t. its_owed n kept is (is_number (g.carrier_of n) c (its (g.carrier_of n == c) t))),
+        (λ n kept is t. ap (λ (x : Option Loc). owed_at x (is_finished (g.processing n)) (g.is_aligned n)) (ap (λ (b : Bool). cond b None (g.place_of n)) (not-true (g.carrier_of n == c) t)))
+        (λ n kept is t. its_owed n kept is (is_number (g.carrier_of n) c (not-false (g.carrier_of n == c) t))),
   )
-    where
-      other : (b : Bool) → not b ≡ true → b ≡ false
-      other true e = sym e
-      other false e = refl
-
-      its : (b : Bool) → not b ≡ false → b ≡ true
-      its true e = refl
-      its false e = sym e

@@ -108,12 +108,11 @@ module _ (counted : ℕ → Bool) (g : Floor) (v : Valid g) (u : Undisturbed cou
       by (slot p k) e false q true r = absurd (let w = u.substrates.in_slot n p k (at (slot p k) e) q in cc)
       by (slot p k) e false q false r = omega arith
       by aligner e true q true r = omega arith
-      by aligner e true q false r = absurd (let w = aligned_there n in_job q in cc)
       by aligner e false q true r = omega arith
       by aligner e false q false r = absurd (let w = s.from_aligner e in let z : (is_finished (g.processing n) || g.is_aligned n) ≡ false = ap (λ (b : Bool). b || g.is_aligned n) q ∙ r in cc)
       by arm e f q a r = absurd (s.not_arm e)
       by (chamber d) e true q true r = omega arith
-      by (chamber d) e true q false r = absurd (let w = aligned_there n in_job q in cc)
+      by _ e true q false r = absurd (let w = aligned_there n in_job q in cc)
       by (chamber d) e false q a r = absurd (let w = s.from_chamber d e in cc)
 
   pub done_place-falls : (m n : ℕ) (l : Loc) (c : Command) → g.equipment m ≡ busy c → c.task ≡ place n l → OneLess counted g (moved n l m g)
@@ -130,14 +129,13 @@ module _ (counted : ℕ → Bool) (g : Floor) (v : Valid g) (u : Undisturbed cou
 
       by : (y : Loc) → l ≡ y → (f : Bool) → is_finished (g.processing n) ≡ f → (a : Bool) → g.is_aligned n ≡ a → owed_at (Some arm) f a ≡ owed_at (Some y) f a + 1
       by (slot p k) e true q true r = omega arith
-      by (slot p k) e true q false r = absurd (let w = aligned_there n in_job q in cc)
       by (slot p k) e false q a r = absurd (let w = (s.to_slot p k e).1 in cc)
       by aligner e true q true r = absurd (let w = s.to_aligner e in cc)
-      by aligner e true q false r = absurd (let w = aligned_there n in_job q in cc)
       by aligner e false q true r = absurd (let w = s.to_aligner e in cc)
       by aligner e false q false r = omega arith
       by arm e f q a r = absurd (s.not_arm e)
       by (chamber d) e true q a r = absurd (let w = u.substrates.to_chamber m n d c is (t ∙ ap (λ (z : Loc). place n z) e) in cc)
+      by _ e true q false r = absurd (let w = aligned_there n in_job q in cc)
       by (chamber d) e false q true r = omega arith
       by (chamber d) e false q false r = absurd (let w = (s.to_chamber d e).1 in cc)
 

@@ -6,10 +6,10 @@ use Rattle.control_job.specs.Names.{is_in, others, are_named}
 use Rattle.control_job.specs.Record.{control_starts, control_fired, is_active}
 use Rattle.control_job.specs.Tables.{state_number}
 use Rattle.control_job.specs.Jobs as control
-use Rattle.control_job.specs.Jobs.{owns, is_open, has_name, numbers_of, fires_row, fires_at, left_behind, leaves}
+use Rattle.control_job.specs.Jobs.{owns, is_open, has_name, numbers_of, fires_row, left_behind, leaves}
 use Rattle.control_job.specs.Creating.{replaced_by, number_named, first_completed, create_fault}
 use Rattle.control_job.specs.declared.record.ControlState.{ControlState}
-use Rattle.control_job.specs.declared.record.ControlState.TheVariants.{Queued, Selected, WaitingForStart, Executing, Paused, Completed}
+use Rattle.control_job.specs.declared.record.ControlState.TheVariants.{Queued, Executing, Completed}
 use Rattle.control_job.specs.declared.record.Ending.{Ending}
 use Rattle.control_job.specs.declared.record.Ending.TheVariants.{No, ByStop, ByAbort}
 use Rattle.control_job.specs.declared.job.ControlJob.{ControlJob}
@@ -25,12 +25,9 @@ use Rattle.tool_jobs.proofs.Counting.{none_found}
 use Rattle.queue_laws.specs.Started.{is_begun}
 use Rattle.queue_laws.proofs.Lists.{find_meets, one_passes, one_alone, stays_in_others}
 use Rattle.queue_laws.proofs.Rows.{begun_active, active_open, stays_begun, keeps_left}
+use Rattle.gem_tables.proofs.Rows.{both}
 
 -- ---- truth values
-
-pub both : (a b : Bool) → a ≡ true → b ≡ true → (a && b) ≡ true
-both true b p q = q
-both false b p q = absurd (true≢false (sym p))
 
 pub same_number : (a b : ℕ) → (a == b) ≡ true → a ≡ b
 same_number a b e = grind (arith, nat_tests, e)
@@ -73,19 +70,12 @@ not_by_abort ByAbort f = absurd (true≢false f)
 -- EXECUTING has its number
 pub three_begun : (s : ControlState) → (state_number s == 3) ≡ true → is_begun s ≡ true
 three_begun Executing e = refl
-three_begun Queued e = absurd (true≢false (sym e))
-three_begun Selected e = absurd (true≢false (sym e))
-three_begun WaitingForStart e = absurd (true≢false (sym e))
-three_begun Paused e = absurd (true≢false (sym e))
-three_begun Completed e = absurd (true≢false (sym e))
+three_begun _ e = absurd (true≢false (sym e))
 
 pub passive_three : (s : ControlState) → is_active s ≡ false → (state_number s == 3) ≡ false
 passive_three Queued e = refl
 passive_three Completed e = refl
-passive_three Selected e = absurd (true≢false e)
-passive_three WaitingForStart e = absurd (true≢false e)
-passive_three Executing e = absurd (true≢false e)
-passive_three Paused e = absurd (true≢false e)
+passive_three _ e = absurd (true≢false e)
 
 -- ---- how one is ending
 

@@ -75,14 +75,7 @@ module _ {S W E : Type 0} where
 -- a process job that is QUEUED stays so, but for row 2
 pub stays_queued : (row : ℕ) (s : JobState) → (row == 2) ≡ false → is_queued s ≡ true → is_queued (after job_number job_table row s) ≡ true
 stays_queued row state.Queued two e = after_meets job_number is_queued (λ n. n == 2) row state.Queued job_table two refl refl
-stays_queued row state.SettingUp two e = absurd (true≢false (sym e))
-stays_queued row state.WaitingForStart two e = absurd (true≢false (sym e))
-stays_queued row state.Processing two e = absurd (true≢false (sym e))
-stays_queued row state.Complete two e = absurd (true≢false (sym e))
-stays_queued row state.Pausing two e = absurd (true≢false (sym e))
-stays_queued row state.Paused two e = absurd (true≢false (sym e))
-stays_queued row state.Stopping two e = absurd (true≢false (sym e))
-stays_queued row state.Aborting two e = absurd (true≢false (sym e))
+stays_queued row _ two e = absurd (true≢false (sym e))
 
 -- one goes on, but for the rows that start by hand, pause, stop or abort it
 abbrev pub turns : ℕ → Bool
@@ -93,11 +86,7 @@ goes_on_behind row state.Queued t e = after_meets job_number goes_on turns row s
 goes_on_behind row state.SettingUp t e = after_meets job_number goes_on turns row state.SettingUp job_table t refl refl
 goes_on_behind row state.Processing t e = after_meets job_number goes_on turns row state.Processing job_table t refl refl
 goes_on_behind row state.Complete t e = after_meets job_number goes_on turns row state.Complete job_table t refl refl
-goes_on_behind row state.WaitingForStart t e = absurd (true≢false (sym e))
-goes_on_behind row state.Pausing t e = absurd (true≢false (sym e))
-goes_on_behind row state.Paused t e = absurd (true≢false (sym e))
-goes_on_behind row state.Stopping t e = absurd (true≢false (sym e))
-goes_on_behind row state.Aborting t e = absurd (true≢false (sym e))
+goes_on_behind row _ t e = absurd (true≢false (sym e))
 
 -- what isn't found for a process job that starts by itself, whose control job isn't ending
 abbrev pub is_refused : JobWant → Bool
@@ -117,11 +106,7 @@ starts_going finds row state.Queued none g e = start_fits job_number finds is_re
 starts_going finds row state.SettingUp none g e = start_fits job_number finds is_refused going_rows job_table row state.SettingUp none refl e
 starts_going finds row state.Processing none g e = start_fits job_number finds is_refused going_rows job_table row state.Processing none refl e
 starts_going finds row state.Complete none g e = start_fits job_number finds is_refused going_rows job_table row state.Complete none refl e
-starts_going finds row state.WaitingForStart none g e = absurd (true≢false (sym g))
-starts_going finds row state.Pausing none g e = absurd (true≢false (sym g))
-starts_going finds row state.Paused none g e = absurd (true≢false (sym g))
-starts_going finds row state.Stopping none g e = absurd (true≢false (sym g))
-starts_going finds row state.Aborting none g e = absurd (true≢false (sym g))
+starts_going finds row _ none g e = absurd (true≢false (sym g))
 
 pub ready_going : (finds : JobWant → Bool) (row : ℕ) (s : JobState) → ((w : JobWant) → is_refused w ≡ true → finds w ≡ false) → goes_on s ≡ true
     → first_itself job_number finds job_table s ≡ Some row → is_one_of (2 ∷ 4 ∷ 6 ∷ 7 ∷ []) row ≡ true
@@ -129,11 +114,7 @@ ready_going finds row state.Queued none g e = ready_fits job_number finds is_ref
 ready_going finds row state.SettingUp none g e = ready_fits job_number finds is_refused (is_one_of (2 ∷ 4 ∷ 6 ∷ 7 ∷ [])) job_table row state.SettingUp none refl e
 ready_going finds row state.Processing none g e = ready_fits job_number finds is_refused (is_one_of (2 ∷ 4 ∷ 6 ∷ 7 ∷ [])) job_table row state.Processing none refl e
 ready_going finds row state.Complete none g e = ready_fits job_number finds is_refused (is_one_of (2 ∷ 4 ∷ 6 ∷ 7 ∷ [])) job_table row state.Complete none refl e
-ready_going finds row state.WaitingForStart none g e = absurd (true≢false (sym g))
-ready_going finds row state.Pausing none g e = absurd (true≢false (sym g))
-ready_going finds row state.Paused none g e = absurd (true≢false (sym g))
-ready_going finds row state.Stopping none g e = absurd (true≢false (sym g))
-ready_going finds row state.Aborting none g e = absurd (true≢false (sym g))
+ready_going finds row _ none g e = absurd (true≢false (sym g))
 
 -- what isn't found for one that is QUEUED and isn't the first left in a control job that executes, whose control job isn't ending
 abbrev pub is_refused_waiting : JobWant → Bool
@@ -146,26 +127,12 @@ is_refused_waiting _ = false
 pub starts_waiting : (finds : JobWant → Bool) (row : ℕ) (s : JobState) → ((w : JobWant) → is_refused_waiting w ≡ true → finds w ≡ false) → is_queued s ≡ true
     → found_starts job_number finds s (row_of job_table row) ≡ true → is_one_of (1 ∷ 15 ∷ []) row ≡ true
 starts_waiting finds row state.Queued none g e = start_fits job_number finds is_refused_waiting (is_one_of (1 ∷ 15 ∷ [])) job_table row state.Queued none refl e
-starts_waiting finds row state.SettingUp none g e = absurd (true≢false (sym g))
-starts_waiting finds row state.WaitingForStart none g e = absurd (true≢false (sym g))
-starts_waiting finds row state.Processing none g e = absurd (true≢false (sym g))
-starts_waiting finds row state.Complete none g e = absurd (true≢false (sym g))
-starts_waiting finds row state.Pausing none g e = absurd (true≢false (sym g))
-starts_waiting finds row state.Paused none g e = absurd (true≢false (sym g))
-starts_waiting finds row state.Stopping none g e = absurd (true≢false (sym g))
-starts_waiting finds row state.Aborting none g e = absurd (true≢false (sym g))
+starts_waiting finds row _ none g e = absurd (true≢false (sym g))
 
 pub ready_waiting : (finds : JobWant → Bool) (row : ℕ) (s : JobState) → ((w : JobWant) → is_refused_waiting w ≡ true → finds w ≡ false) → is_queued s ≡ true
     → first_itself job_number finds job_table s ≡ Some row → ⊥
 ready_waiting finds row state.Queued none g e = true≢false (sym (ready_fits job_number finds is_refused_waiting (λ n. false) job_table row state.Queued none refl e))
-ready_waiting finds row state.SettingUp none g e = absurd (true≢false (sym g))
-ready_waiting finds row state.WaitingForStart none g e = absurd (true≢false (sym g))
-ready_waiting finds row state.Processing none g e = absurd (true≢false (sym g))
-ready_waiting finds row state.Complete none g e = absurd (true≢false (sym g))
-ready_waiting finds row state.Pausing none g e = absurd (true≢false (sym g))
-ready_waiting finds row state.Paused none g e = absurd (true≢false (sym g))
-ready_waiting finds row state.Stopping none g e = absurd (true≢false (sym g))
-ready_waiting finds row state.Aborting none g e = absurd (true≢false (sym g))
+ready_waiting finds row _ none g e = absurd (true≢false (sym g))
 
 -- ---- table 15
 
@@ -179,10 +146,7 @@ stays_begun row s eight e = by_state s.state s.ending e where
   by_state Paused No f = after_meets states_number (λ (t : ControlJobRecord). is_begun t.state) (λ n. n == 8) row (record { state = Paused; ending = No }) control_table eight refl refl
   by_state Paused ByStop f = after_meets states_number (λ (t : ControlJobRecord). is_begun t.state) (λ n. n == 8) row (record { state = Paused; ending = ByStop }) control_table eight refl refl
   by_state Paused ByAbort f = after_meets states_number (λ (t : ControlJobRecord). is_begun t.state) (λ n. n == 8) row (record { state = Paused; ending = ByAbort }) control_table eight refl refl
-  by_state Queued b f = absurd (true≢false (sym f))
-  by_state Selected b f = absurd (true≢false (sym f))
-  by_state WaitingForStart b f = absurd (true≢false (sym f))
-  by_state Completed b f = absurd (true≢false (sym f))
+  by_state _ b f = absurd (true≢false (sym f))
 
 -- row 9 starts at none that is
 pub keeps_left : (s : ControlJobRecord) → is_begun s.state ≡ true → control_starts 9 s ≡ false
@@ -194,10 +158,7 @@ keeps_left s e = by_state s.state s.ending e where
   by_state Paused No f = refl
   by_state Paused ByStop f = refl
   by_state Paused ByAbort f = refl
-  by_state Queued b f = absurd (true≢false (sym f))
-  by_state Selected b f = absurd (true≢false (sym f))
-  by_state WaitingForStart b f = absurd (true≢false (sym f))
-  by_state Completed b f = absurd (true≢false (sym f))
+  by_state _ b f = absurd (true≢false (sym f))
 
 -- one that is ending is EXECUTING, behind any row
 abbrev pub ends_executing : ControlJobRecord → Bool
@@ -219,30 +180,23 @@ module _ {S W E : Type 0} where
 pub stays_ending : (row : ℕ) (s : ControlJobRecord) → ends_executing s ≡ true → ends_executing (control_fired row s) ≡ true
 stays_ending row s e = after_good states_number ends_executing row s control_table e refl
 
+-- what is so of EXECUTING that isn't ending is so of the states that say so
+pub by_executing : (P : ControlJobRecord → Type 0) → P (record { state = Executing; ending = No }) → (s : ControlJobRecord) → (states_number s == 3) ≡ true → P s
+by_executing P is s three = of s.state s.ending three where
+  of : (a : ControlState) (b : Ending) → (states_number (record { state = a; ending = b }) == 3) ≡ true → P (record { state = a; ending = b })
+  of Executing No t = is
+  of _ No t = absurd (true≢false (sym t))
+  of Executing ByStop t = absurd (true≢false (sym t))
+  of _ ByStop t = absurd (true≢false (sym t))
+  of Executing ByAbort t = absurd (true≢false (sym t))
+  of _ ByAbort t = absurd (true≢false (sym t))
+
 -- the rows that start at one that is EXECUTING and isn't ending: its creation, 8, and those that disturb it
 pub starts_executing : (finds : ControlWant → Bool) (row : ℕ) (s : ControlJobRecord) → (states_number s == 3) ≡ true
     → found_starts states_number finds s (row_of control_table row) ≡ true → is_one_of (1 ∷ 6 ∷ 8 ∷ 11 ∷ 12 ∷ []) row ≡ true
-starts_executing finds row s three e = by_state s.state s.ending three e where
-  by_state : (a : ControlState) (b : Ending) → (states_number (record { state = a; ending = b }) == 3) ≡ true
-      → found_starts states_number finds (record { state = a; ending = b }) (row_of control_table row) ≡ true → is_one_of (1 ∷ 6 ∷ 8 ∷ 11 ∷ 12 ∷ []) row ≡ true
-  by_state Executing No t f = start_fits states_number finds (λ w. false) (is_one_of (1 ∷ 6 ∷ 8 ∷ 11 ∷ 12 ∷ [])) control_table row (record { state = Executing; ending = No }) (λ w g. absurd (true≢false (sym g))) refl f
-  by_state Executing ByStop t f = absurd (true≢false (sym t))
-  by_state Executing ByAbort t f = absurd (true≢false (sym t))
-  by_state Paused No t f = absurd (true≢false (sym t))
-  by_state Paused ByStop t f = absurd (true≢false (sym t))
-  by_state Paused ByAbort t f = absurd (true≢false (sym t))
-  by_state Queued No t f = absurd (true≢false (sym t))
-  by_state Queued ByStop t f = absurd (true≢false (sym t))
-  by_state Queued ByAbort t f = absurd (true≢false (sym t))
-  by_state Selected No t f = absurd (true≢false (sym t))
-  by_state Selected ByStop t f = absurd (true≢false (sym t))
-  by_state Selected ByAbort t f = absurd (true≢false (sym t))
-  by_state WaitingForStart No t f = absurd (true≢false (sym t))
-  by_state WaitingForStart ByStop t f = absurd (true≢false (sym t))
-  by_state WaitingForStart ByAbort t f = absurd (true≢false (sym t))
-  by_state Completed No t f = absurd (true≢false (sym t))
-  by_state Completed ByStop t f = absurd (true≢false (sym t))
-  by_state Completed ByAbort t f = absurd (true≢false (sym t))
+starts_executing finds row s three e = by_executing (λ (x : ControlJobRecord). found_starts states_number finds x (row_of control_table row) ≡ true → is_one_of (1 ∷ 6 ∷ 8 ∷ 11 ∷ 12 ∷ []) row ≡ true)
+    (λ f. start_fits states_number finds (λ w. false) (is_one_of (1 ∷ 6 ∷ 8 ∷ 11 ∷ 12 ∷ [])) control_table row (record { state = Executing; ending = No }) (λ w g. absurd (true≢false (sym g))) refl f)
+    s three e
 
 -- at one that isn't active, where another is
 abbrev pub is_refused_passive : ControlWant → Bool
@@ -260,10 +214,7 @@ starts_passive finds row s none a e f = by_state s.state s.ending a e f where
   by_state Queued ByAbort t g f = absurd (true≢false (sym g))
   by_state Completed ByStop t g f = absurd (true≢false (sym g))
   by_state Completed ByAbort t g f = absurd (true≢false (sym g))
-  by_state Selected b t g f = absurd (true≢false t)
-  by_state WaitingForStart b t g f = absurd (true≢false t)
-  by_state Executing b t g f = absurd (true≢false t)
-  by_state Paused b t g f = absurd (true≢false t)
+  by_state _ b t g f = absurd (true≢false t)
 
 -- none is ready there by itself
 pub ready_passive : (finds : ControlWant → Bool) (row : ℕ) (s : ControlJobRecord) → ((w : ControlWant) → is_refused_passive w ≡ true → finds w ≡ false) → is_active s.state ≡ false → ends_executing s ≡ true
@@ -277,41 +228,14 @@ ready_passive finds row s none a e f = by_state s.state s.ending a e f where
   by_state Queued ByAbort t g f = absurd (true≢false (sym g))
   by_state Completed ByStop t g f = absurd (true≢false (sym g))
   by_state Completed ByAbort t g f = absurd (true≢false (sym g))
-  by_state Selected b t g f = absurd (true≢false t)
-  by_state WaitingForStart b t g f = absurd (true≢false t)
-  by_state Executing b t g f = absurd (true≢false t)
-  by_state Paused b t g f = absurd (true≢false t)
+  by_state _ b t g f = absurd (true≢false t)
 
 -- at one that is EXECUTING and isn't ending, row 8 is ready, where none is left
 pub ready_executing : (finds : ControlWant → Bool) (s : ControlJobRecord) → (states_number s == 3) ≡ true
     → first_itself states_number finds control_table s ≡ cond (finds control_want.none_left) (Some 8) None
-ready_executing finds s three = by_state s.state s.ending three where
-  by_state : (a : ControlState) (b : Ending) → (states_number (record { state = a; ending = b }) == 3) ≡ true
-      → first_itself states_number finds control_table (record { state = a; ending = b }) ≡ cond (finds control_want.none_left) (Some 8) None
-  by_state Executing No t = refl
-  by_state Executing ByStop t = absurd (true≢false (sym t))
-  by_state Executing ByAbort t = absurd (true≢false (sym t))
-  by_state Paused No t = absurd (true≢false (sym t))
-  by_state Paused ByStop t = absurd (true≢false (sym t))
-  by_state Paused ByAbort t = absurd (true≢false (sym t))
-  by_state Queued No t = absurd (true≢false (sym t))
-  by_state Queued ByStop t = absurd (true≢false (sym t))
-  by_state Queued ByAbort t = absurd (true≢false (sym t))
-  by_state Selected No t = absurd (true≢false (sym t))
-  by_state Selected ByStop t = absurd (true≢false (sym t))
-  by_state Selected ByAbort t = absurd (true≢false (sym t))
-  by_state WaitingForStart No t = absurd (true≢false (sym t))
-  by_state WaitingForStart ByStop t = absurd (true≢false (sym t))
-  by_state WaitingForStart ByAbort t = absurd (true≢false (sym t))
-  by_state Completed No t = absurd (true≢false (sym t))
-  by_state Completed ByStop t = absurd (true≢false (sym t))
-  by_state Completed ByAbort t = absurd (true≢false (sym t))
+ready_executing finds s three = by_executing (λ (x : ControlJobRecord). first_itself states_number finds control_table x ≡ cond (finds control_want.none_left) (Some 8) None) refl s three
 
 -- ---- what rows 4 and 5 of table 15 start at
-
--- SELECTED or WAITING FOR START, and not ending
-abbrev pub is_about_to : ControlJobRecord → Bool
-is_about_to s = is_one_of (1 ∷ 2 ∷ []) (states_number s)
 
 -- it is active and not begun, and behind the row EXECUTING
 pub record Starting (row : ℕ) (s : ControlJobRecord) : Type 0 where
@@ -326,53 +250,26 @@ pub starting : (finds : ControlWant → Bool) (row : ℕ) (s : ControlJobRecord)
 starting finds row s r e = one_of_cases (λ (n : ℕ). found_starts states_number finds s (row_of control_table n) ≡ true → Starting n s) (4 ∷ 5 ∷ []) row ((λ f. four s.state s.ending f), ((λ f. five s.state s.ending f), tt)) r e where
   four : (a : ControlState) (b : Ending) → found_starts states_number finds (record { state = a; ending = b }) (row_of control_table 4) ≡ true → Starting 4 (record { state = a; ending = b })
   four Selected No f = record { active = refl; not_begun = refl; executing = refl; open_then = refl; open_now = refl }
+  four _ No f = absurd (true≢false (sym f))
   four Selected ByStop f = absurd (true≢false (sym f))
+  four _ ByStop f = absurd (true≢false (sym f))
   four Selected ByAbort f = absurd (true≢false (sym f))
-  four Queued No f = absurd (true≢false (sym f))
-  four Queued ByStop f = absurd (true≢false (sym f))
-  four Queued ByAbort f = absurd (true≢false (sym f))
-  four WaitingForStart No f = absurd (true≢false (sym f))
-  four WaitingForStart ByStop f = absurd (true≢false (sym f))
-  four WaitingForStart ByAbort f = absurd (true≢false (sym f))
-  four Executing No f = absurd (true≢false (sym f))
-  four Executing ByStop f = absurd (true≢false (sym f))
-  four Executing ByAbort f = absurd (true≢false (sym f))
-  four Paused No f = absurd (true≢false (sym f))
-  four Paused ByStop f = absurd (true≢false (sym f))
-  four Paused ByAbort f = absurd (true≢false (sym f))
-  four Completed No f = absurd (true≢false (sym f))
-  four Completed ByStop f = absurd (true≢false (sym f))
-  four Completed ByAbort f = absurd (true≢false (sym f))
+  four _ ByAbort f = absurd (true≢false (sym f))
 
   five : (a : ControlState) (b : Ending) → found_starts states_number finds (record { state = a; ending = b }) (row_of control_table 5) ≡ true → Starting 5 (record { state = a; ending = b })
   five WaitingForStart No f = record { active = refl; not_begun = refl; executing = refl; open_then = refl; open_now = refl }
+  five _ No f = absurd (true≢false (sym f))
   five WaitingForStart ByStop f = absurd (true≢false (sym f))
+  five _ ByStop f = absurd (true≢false (sym f))
   five WaitingForStart ByAbort f = absurd (true≢false (sym f))
-  five Selected No f = absurd (true≢false (sym f))
-  five Selected ByStop f = absurd (true≢false (sym f))
-  five Selected ByAbort f = absurd (true≢false (sym f))
-  five Queued No f = absurd (true≢false (sym f))
-  five Queued ByStop f = absurd (true≢false (sym f))
-  five Queued ByAbort f = absurd (true≢false (sym f))
-  five Executing No f = absurd (true≢false (sym f))
-  five Executing ByStop f = absurd (true≢false (sym f))
-  five Executing ByAbort f = absurd (true≢false (sym f))
-  five Paused No f = absurd (true≢false (sym f))
-  five Paused ByStop f = absurd (true≢false (sym f))
-  five Paused ByAbort f = absurd (true≢false (sym f))
-  five Completed No f = absurd (true≢false (sym f))
-  five Completed ByStop f = absurd (true≢false (sym f))
-  five Completed ByAbort f = absurd (true≢false (sym f))
+  five _ ByAbort f = absurd (true≢false (sym f))
 
 -- ---- what states say
 
 pub begun_active : (s : ControlState) → is_begun s ≡ true → is_active s ≡ true
 begun_active Executing e = refl
 begun_active Paused e = refl
-begun_active Queued e = absurd (true≢false (sym e))
-begun_active Selected e = absurd (true≢false (sym e))
-begun_active WaitingForStart e = absurd (true≢false (sym e))
-begun_active Completed e = absurd (true≢false (sym e))
+begun_active _ e = absurd (true≢false (sym e))
 
 pub active_open : (s : ControlState) → is_active s ≡ true → is_completed s ≡ false
 active_open Completed e = absurd (true≢false (sym e))
@@ -389,26 +286,7 @@ pub record Executed (s : ControlJobRecord) : Type 0 where
   pub not_ending : is_ending s.ending ≡ false
 
 pub executed : (s : ControlJobRecord) → (states_number s == 3) ≡ true → Executed s
-executed s three = by_state s.state s.ending three where
-  by_state : (a : ControlState) (b : Ending) → (states_number (record { state = a; ending = b }) == 3) ≡ true → Executed (record { state = a; ending = b })
-  by_state Executing No t = record { active = refl; begun = refl; not_ending = refl }
-  by_state Executing ByStop t = absurd (true≢false (sym t))
-  by_state Executing ByAbort t = absurd (true≢false (sym t))
-  by_state Paused No t = absurd (true≢false (sym t))
-  by_state Paused ByStop t = absurd (true≢false (sym t))
-  by_state Paused ByAbort t = absurd (true≢false (sym t))
-  by_state Queued No t = absurd (true≢false (sym t))
-  by_state Queued ByStop t = absurd (true≢false (sym t))
-  by_state Queued ByAbort t = absurd (true≢false (sym t))
-  by_state Selected No t = absurd (true≢false (sym t))
-  by_state Selected ByStop t = absurd (true≢false (sym t))
-  by_state Selected ByAbort t = absurd (true≢false (sym t))
-  by_state WaitingForStart No t = absurd (true≢false (sym t))
-  by_state WaitingForStart ByStop t = absurd (true≢false (sym t))
-  by_state WaitingForStart ByAbort t = absurd (true≢false (sym t))
-  by_state Completed No t = absurd (true≢false (sym t))
-  by_state Completed ByStop t = absurd (true≢false (sym t))
-  by_state Completed ByAbort t = absurd (true≢false (sym t))
+executed s three = by_executing Executed (record { active = refl; begun = refl; not_ending = refl }) s three
 
 -- one that isn't active isn't ending
 pub passive_not_ending : (s : ControlJobRecord) → is_active s.state ≡ false → ends_executing s ≡ true → is_ending s.ending ≡ false
@@ -419,11 +297,5 @@ passive_not_ending s a e = by_state s.state s.ending a e where
   by_state Queued ByAbort t f = absurd (true≢false (sym f))
   by_state Completed ByStop t f = absurd (true≢false (sym f))
   by_state Completed ByAbort t f = absurd (true≢false (sym f))
-  by_state Selected ByStop t f = absurd (true≢false t)
-  by_state Selected ByAbort t f = absurd (true≢false t)
-  by_state WaitingForStart ByStop t f = absurd (true≢false t)
-  by_state WaitingForStart ByAbort t f = absurd (true≢false t)
-  by_state Executing ByStop t f = absurd (true≢false t)
-  by_state Executing ByAbort t f = absurd (true≢false t)
-  by_state Paused ByStop t f = absurd (true≢false t)
-  by_state Paused ByAbort t f = absurd (true≢false t)
+  by_state _ ByStop t f = absurd (true≢false t)
+  by_state _ ByAbort t f = absurd (true≢false t)

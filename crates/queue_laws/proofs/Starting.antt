@@ -4,14 +4,13 @@ use Rattle.gem_tables.specs.Table.{row_of, after, is_among}
 use Rattle.tool_tasks.specs.declared.recipes.Recipe.{Recipe}
 use Rattle.process_job.specs.Tables.{job_number, job_table}
 use Rattle.process_job.specs.Jobs as process
-use Rattle.process_job.specs.Jobs.{JobBook}
 use Rattle.process_job.specs.declared.record.JobState.TheVariants as process_state
 use Rattle.process_job.specs.declared.job.ProcessJob.{ProcessJob}
 use Rattle.process_job.specs.declared.job.JobSpec.{JobSpec}
 use Rattle.control_job.specs.Tables.{state_number, states_number, executing}
 use Rattle.control_job.specs.Record.{control_fired as states_fired}
 use Rattle.control_job.specs.Jobs as control
-use Rattle.control_job.specs.Jobs.{JobStore, owns, is_open, fires_row, fires_at, leaves, new_job}
+use Rattle.control_job.specs.Jobs.{owns, is_open, fires_row, fires_at, leaves, new_job}
 use Rattle.control_job.specs.Creating.{replaced_by, kept_without}
 use Rattle.control_job.specs.declared.job.ControlJob.{ControlJob}
 use Rattle.records.proofs.Truth.{and_true}

@@ -3,7 +3,7 @@
 use Rattle.std.proofs.Common.{◌≡◌, ℕ, ◌+◌, ◌==◌, Bool, true, false, true≢false, cond, not, ◌&&◌, ◌||◌, List, [], ◌∷◌, map, find, Option, Some, None, bytes_eq, refl, sym, ap, ◌∙◌, subst, ◌⊎◌, inl, inr}
 use Rattle.std.specs.List.{list_any, list_all, AllByRecursion}
 use Rattle.gem_tables.specs.Table.{is_one_of, row_of, after}
-use Rattle.gem_tables.proofs.Rows.{one_of_cases}
+use Rattle.gem_tables.proofs.Rows.{one_of_cases, both}
 use Rattle.process_job.specs.Tables.{JobWant, job_number, job_table}
 use Rattle.process_job.specs.Tables as want
 use Rattle.process_job.specs.Jobs as process
@@ -20,7 +20,7 @@ use Rattle.control_job.specs.Tables as control_want
 use Rattle.control_job.specs.Record.{is_active}
 use Rattle.control_job.specs.Names.{is_in}
 use Rattle.control_job.specs.Jobs as control
-use Rattle.control_job.specs.Jobs.{JobStore, owns, is_open, is_any_active, first_waiting, fires_row, fires_at, leaves, new_job}
+use Rattle.control_job.specs.Jobs.{owns, is_open, is_any_active, first_waiting, fires_row, fires_at, leaves, new_job}
 use Rattle.control_job.specs.declared.job.ControlJob.{ControlJob}
 use Rattle.records.proofs.Truth.{and_true, not_true}
 use Rattle.control_job.proofs.Keeping.{leaves_number, fires_number}
@@ -37,7 +37,7 @@ use Rattle.queue_laws.specs.Started.{is_queued, is_begun, has_left, is_left_in, 
 use Rattle.queue_laws.specs.Steers.{is_executing, has_none_left, goes_on, Steers, AreAutomatic, disturbs_process, disturbs_control, is_completion}
 use Rattle.queue_laws.proofs.Lists.{find_meets, all_found, number_is, changed_on, changed_back, one_alone, at_number, gone_back, one_more_back, names_differ}
 use Rattle.queue_laws.proofs.Rows.{turns, goes_on_behind, is_refused, starts_going, ready_going, is_refused_waiting, starts_waiting, ready_waiting, ends_executing, starts_executing, is_refused_passive, starts_passive, ready_passive, ready_executing, Starting, starting, begun_active, active_open, Executed, executed, passive_not_ending}
-use Rattle.queue_laws.proofs.Owners.{both, same_number, is_same, owner_numbered, owner_is, not_by_stop, not_by_abort, passive_three, ends_told, states_left, owns_on}
+use Rattle.queue_laws.proofs.Owners.{same_number, is_same, owner_numbered, owner_is, not_by_stop, not_by_abort, passive_three, ends_told, states_left, owns_on}
 use Rattle.queue_laws.proofs.Starting as started
 
 -- ---- lists
@@ -80,6 +80,26 @@ left_owned number job w c e f = subst (λ (o : Option ControlJob). has_left job 
 pub owned_left : (number : ℕ) (job : List ℕ) (w : Jobs) (c : ControlJob) → control.job_numbered number w.control.jobs ≡ Some c → owns job c ≡ true → is_left_in number job w ≡ true
 owned_left number job w c e f = subst (λ (o : Option ControlJob). has_left job o ≡ true) (sym e) f
 
+-- a process job that is left in a control job that isn't COMPLETED is kept
+pub left_known : (w : Jobs) (number : ℕ) (c : ControlJob) (job : List ℕ) → AreTogether w → control.job_numbered number w.control.jobs ≡ Some c → owns job c ≡ true → is_known job w.process.kept ≡ true
+left_known w number c job t at owned =
+    let parts = and_true (is_open c) (is_in job c.left) owned in
+    named c.left (second (is_open c) (list_all (λ n. is_known n w.process.kept) c.left) parts.0 (all_found (is_left_kept w) (λ d. d.number == number) w.control.jobs c t.kept at)) parts.1
+  where
+    second : (a b : Bool) → a ≡ true → (not a || b) ≡ true → b ≡ true
+    second true b p q = q
+    second false b p q = absurd (true≢false (sym p))
+
+    named : (ns : List (List ℕ)) → list_all (λ n. is_known n w.process.kept) ns ≡ true → is_in job ns ≡ true → is_known job w.process.kept ≡ true
+    named [] f g = absurd (true≢false (sym g))
+    named (n ∷ ns) f g =
+        let both_of = and_true (is_known n w.process.kept) (list_all (λ x. is_known x w.process.kept) ns) f in
+        by_test (bytes_eq n job) refl g both_of.0 (named ns both_of.1)
+      where
+        by_test : (b : Bool) → bytes_eq n job ≡ b → (b || is_in job ns) ≡ true → is_known n w.process.kept ≡ true → (is_in job ns ≡ true → is_known job w.process.kept ≡ true) → is_known job w.process.kept ≡ true
+        by_test true p q here later = subst (λ (x : List ℕ). is_known x w.process.kept ≡ true) (same_name n job p) here
+        by_test false p q here later = later q
+
 module _ (number : ℕ) (w : Jobs) (t : AreTogether w) (s : AreStarted w) (v : Steers number w) where
   found : Found number w
   found = found_executing number w v.executes
@@ -110,11 +130,7 @@ module _ (number : ℕ) (w : Jobs) (t : AreTogether w) (s : AreStarted w) (v : S
     by_want want.control_job_ends q = ap (ends_so is_ending) mine ∙ is.not_ending
     by_want want.control_job_stops q = ap (ends_so is_by_stop) mine ∙ not_by_stop found.job.states.ending is.not_ending
     by_want want.control_job_aborts q = ap (ends_so is_by_abort) mine ∙ not_by_abort found.job.states.ending is.not_ending
-    by_want want.nothing_more q = absurd (true≢false (sym q))
-    by_want want.first_left q = absurd (true≢false (sym q))
-    by_want want.automatic_start q = absurd (true≢false (sym q))
-    by_want want.settled q = absurd (true≢false (sym q))
-    by_want want.none_outside q = absurd (true≢false (sym q))
+    by_want _ q = absurd (true≢false (sym q))
 
   -- for one that isn't
   refuses_waiting : (j : ProcessJob) (sight : Sight) → is_left_in number j.id w ≡ false → (x : JobWant) → is_refused_waiting x ≡ true → process_wants x j sight w ≡ false
@@ -238,21 +254,6 @@ module _ (number : ℕ) (w : Jobs) (t : AreTogether w) (s : AreStarted w) (v : S
       was_left : (job : List ℕ) → is_left_in number job behind ≡ true → is_left_in number job w ≡ true
       was_left job left = owned_left number job w found.job found.at (owns_left gone.id job found.job (left_owned number job behind (leaves gone.id found.job) at left))
 
-  -- what is left in it behind was left before, and another one stays
-  pub ended_left : (n : ℕ) (job : List ℕ) → is_left_in number job (ended n w) ≡ true → is_left_in number job w ≡ true
-  ended_left n job = by_job (process.job_numbered n w.process.kept) where
-    by_job : (o : Option ProcessJob) → is_left_in number job (record { process = process.forgotten n w.process; control = left_by o w.control }) ≡ true → is_left_in number job w ≡ true
-    by_job None left = left
-    by_job (Some gone) left =
-        owned_left number job w found.job found.at
-        (owns_left gone.id job found.job (left_owned number job (record { process = process.forgotten n w.process; control = control.left_by gone.id w.control }) (leaves gone.id found.job) (changed_on (leaves gone.id) number w.control.jobs found.job (leaves_number gone.id) found.at) left))
-
-  pub left_ended : (n : ℕ) (gone : ProcessJob) (job : List ℕ) → process.job_numbered n w.process.kept ≡ Some gone → bytes_eq job gone.id ≡ false → is_left_in number job w ≡ true → is_left_in number job (ended n w) ≡ true
-  left_ended n gone job e other left =
-      subst (λ (o : Option ProcessJob). is_left_in number job (record { process = process.forgotten n w.process; control = left_by o w.control }) ≡ true) (sym e)
-      (owned_left number job (record { process = process.forgotten n w.process; control = control.left_by gone.id w.control }) (leaves gone.id found.job) (changed_on (leaves gone.id) number w.control.jobs found.job (leaves_number gone.id) found.at)
-      (owns_on gone.id job found.job other (left_owned number job w found.job found.at left)))
-
   -- ---- a row of a process job
 
   fired-steers : (row n : ℕ) (j : ProcessJob) → process.job_numbered n w.process.kept ≡ Some j
@@ -340,10 +341,7 @@ module _ (number : ℕ) (w : Jobs) (t : AreTogether w) (s : AreStarted w) (v : S
 
     by_want : (y : ControlWant) → is_refused_passive y ≡ true → control_wants y d here w.control ≡ false
     by_want control_want.first_queued_and_none_active q = last_not (is_that d.number (first_waiting w.control)) (is_any_active w.control.jobs) active
-    by_want control_want.nothing_more q = absurd (true≢false (sym q))
-    by_want control_want.ready_by_hand q = absurd (true≢false (sym q))
-    by_want control_want.ready_by_itself q = absurd (true≢false (sym q))
-    by_want control_want.none_left q = absurd (true≢false (sym q))
+    by_want _ q = absurd (true≢false (sym q))
 
   -- a row of another one leaves it
   other_at : (row m : ℕ) → (m == number) ≡ false → control.job_numbered number (control_fired row m w).control.jobs ≡ Some found.job
@@ -443,23 +441,7 @@ module _ (number : ℕ) (w : Jobs) (t : AreTogether w) (s : AreStarted w) (v : S
 
   -- what is left in it is kept
   pub left_kept : (job : List ℕ) → is_left_in number job w ≡ true → is_known job w.process.kept ≡ true
-  left_kept job left =
-      let parts = and_true (is_open found.job) (is_in job found.job.left) (left_owned number job w found.job found.at left) in
-      named found.job.left (second (is_open found.job) (list_all (λ n. is_known n w.process.kept) found.job.left) parts.0 (all_found (is_left_kept w) (λ c. c.number == number) w.control.jobs found.job t.kept found.at)) parts.1
-    where
-      second : (a b : Bool) → a ≡ true → (not a || b) ≡ true → b ≡ true
-      second true b p q = q
-      second false b p q = absurd (true≢false (sym p))
-
-      named : (ns : List (List ℕ)) → list_all (λ n. is_known n w.process.kept) ns ≡ true → is_in job ns ≡ true → is_known job w.process.kept ≡ true
-      named [] f g = absurd (true≢false (sym g))
-      named (n ∷ ns) f g =
-          let both_of = and_true (is_known n w.process.kept) (list_all (λ x. is_known x w.process.kept) ns) f in
-          by_test (bytes_eq n job) refl g both_of.0 (named ns both_of.1)
-        where
-          by_test : (b : Bool) → bytes_eq n job ≡ b → (b || is_in job ns) ≡ true → is_known n w.process.kept ≡ true → (is_in job ns ≡ true → is_known job w.process.kept ≡ true) → is_known job w.process.kept ≡ true
-          by_test true p q here later = subst (λ (x : List ℕ). is_known x w.process.kept ≡ true) (same_name n job p) here
-          by_test false p q here later = later q
+  left_kept job left = left_known w number found.job job t found.at (left_owned number job w found.job found.at left)
 
   pub created-steers : (spec : JobSpec) → process_fault spec w.process ≡ None → Steers number (with_process spec w)
   created-steers spec e = record {
@@ -566,14 +548,7 @@ module _ (number : ℕ) (w : Jobs) (t : AreTogether w) (s : AreStarted w) where
 
     queued_goes : (x : JobState) → is_queued x ≡ true → goes_on x ≡ true
     queued_goes process_state.Queued q = refl
-    queued_goes process_state.SettingUp q = absurd (true≢false (sym q))
-    queued_goes process_state.WaitingForStart q = absurd (true≢false (sym q))
-    queued_goes process_state.Processing q = absurd (true≢false (sym q))
-    queued_goes process_state.Complete q = absurd (true≢false (sym q))
-    queued_goes process_state.Pausing q = absurd (true≢false (sym q))
-    queued_goes process_state.Paused q = absurd (true≢false (sym q))
-    queued_goes process_state.Stopping q = absurd (true≢false (sym q))
-    queued_goes process_state.Aborting q = absurd (true≢false (sym q))
+    queued_goes _ q = absurd (true≢false (sym q))
 
     was_owned : (job : List ℕ) → owns job (fires_row row c) ≡ true → owns job c ≡ true
     was_owned job o =

@@ -34,10 +34,8 @@ use Rattle.control_job.specs.Record.{is_completed}
 use Rattle.control_job.specs.Jobs as control
 use Rattle.control_job.specs.Jobs.{JobStore, job_numbered as control_numbered, fires_at, leaves, headed}
 use Rattle.control_job.specs.declared.job.ControlJob.{ControlJob}
-use Rattle.control_job.specs.declared.record.ControlState.{ControlState}
-use Rattle.control_job.specs.declared.record.ControlState.TheVariants.{Queued, Selected, WaitingForStart, Executing, Paused, Completed}
-use Rattle.control_job.specs.declared.record.Ending.{Ending}
-use Rattle.control_job.specs.declared.record.Ending.TheVariants.{No, ByStop, ByAbort}
+use Rattle.control_job.specs.declared.record.ControlState.TheVariants.{Queued, Executing}
+use Rattle.control_job.specs.declared.record.Ending.TheVariants.{No}
 use Rattle.control_job.specs.declared.record.ControlJobRecord.{ControlJobRecord}
 use Rattle.control_job.proofs.Keeping.{leaves_number, fires_number}
 use Rattle.tool_jobs.specs.Jobs.{Jobs}
@@ -61,6 +59,7 @@ use Rattle.floor_laws.proofs.JobEnds.{freed_alone}
 use Rattle.queue_laws.specs.Started.{is_left_in, AreStarted}
 use Rattle.queue_laws.specs.Steers.{is_executing, goes_on, disturbs_control}
 use Rattle.queue_laws.proofs.Lists.{number_is, numbered_changed}
+use Rattle.queue_laws.proofs.Rows.{by_executing}
 use Rattle.queue_laws.proofs.Owners.{is_same, states_left}
 use Rattle.queue_laws.proofs.Starting as started
 use Rattle.lot_laws.specs.Lot.{Executes, IsCalmBetween}
@@ -68,6 +67,7 @@ use Rattle.lot_laws.proofs.Going.{processing_same}
 use Rattle.lot_laws.proofs.Orderly.{found_among_all}
 use Rattle.lot_laws.proofs.Processes.{fifteen_is}
 use Rattle.calm_laws.specs.Calm.{is_job_left, disturbs}
+use Rattle.lot_laws.proofs.Words.{process_words, control_words}
 
 -- ---- states
 
@@ -95,34 +95,7 @@ stays_going row state.Queued other e = after_meets job_number goes_on unsettles 
 stays_going row state.SettingUp other e = after_meets job_number goes_on unsettles row state.SettingUp job_table other refl refl
 stays_going row state.Processing other e = after_meets job_number goes_on unsettles row state.Processing job_table other refl refl
 stays_going row state.Complete other e = after_meets job_number goes_on unsettles row state.Complete job_table other refl refl
-stays_going row state.WaitingForStart other e = absurd (true≢false (sym e))
-stays_going row state.Pausing other e = absurd (true≢false (sym e))
-stays_going row state.Paused other e = absurd (true≢false (sym e))
-stays_going row state.Stopping other e = absurd (true≢false (sym e))
-stays_going row state.Aborting other e = absurd (true≢false (sym e))
-
--- what is so of EXECUTING that isn't ending is so of the states that say so
-pub by_executing : (P : ControlJobRecord → Type 0) → P (record { state = Executing; ending = No }) → (s : ControlJobRecord) → (states_number s == 3) ≡ true → P s
-by_executing P is s three = of s.state s.ending three where
-  of : (a : ControlState) (b : Ending) → (states_number (record { state = a; ending = b }) == 3) ≡ true → P (record { state = a; ending = b })
-  of Executing No t = is
-  of Executing ByStop t = absurd (true≢false (sym t))
-  of Executing ByAbort t = absurd (true≢false (sym t))
-  of Paused No t = absurd (true≢false (sym t))
-  of Paused ByStop t = absurd (true≢false (sym t))
-  of Paused ByAbort t = absurd (true≢false (sym t))
-  of Queued No t = absurd (true≢false (sym t))
-  of Queued ByStop t = absurd (true≢false (sym t))
-  of Queued ByAbort t = absurd (true≢false (sym t))
-  of Selected No t = absurd (true≢false (sym t))
-  of Selected ByStop t = absurd (true≢false (sym t))
-  of Selected ByAbort t = absurd (true≢false (sym t))
-  of WaitingForStart No t = absurd (true≢false (sym t))
-  of WaitingForStart ByStop t = absurd (true≢false (sym t))
-  of WaitingForStart ByAbort t = absurd (true≢false (sym t))
-  of Completed No t = absurd (true≢false (sym t))
-  of Completed ByStop t = absurd (true≢false (sym t))
-  of Completed ByAbort t = absurd (true≢false (sym t))
+stays_going row _ other e = absurd (true≢false (sym e))
 
 -- rows by which it executes no more
 abbrev stills : ℕ → Bool
@@ -135,13 +108,6 @@ stays_executing row s other three =
     s three
 
 -- ---- rows that inputs fire
-
--- those of commands to process jobs and to control jobs, with those by which jobs are created
-abbrev pub process_words : List ℕ
-process_words = 1 ∷ 5 ∷ 8 ∷ 10 ∷ 11 ∷ 12 ∷ 15 ∷ []
-
-abbrev pub control_words : List ℕ
-control_words = 1 ∷ 5 ∷ 6 ∷ 7 ∷ 9 ∷ 10 ∷ 11 ∷ 12 ∷ []
 
 -- a row that an input fires, but for row 6 of table 7; or one of tables 1 to 6 and 8 to 11
 abbrev pub is_input : Firing → Bool

@@ -30,12 +30,9 @@ use Rattle.floor_laws.proofs.EndNames.{number_there}
 use Rattle.floor_laws.proofs.EndOpen.{command_of, busy_at, command_placed}
 use Rattle.floor_laws.proofs.EndPlaces.{module_base}
 use Rattle.floor_laws.proofs.EndMoves.{pick_sound, place_sound, align_sound}
+use Rattle.floor_moves.proofs.Moving.{idle_not_busy}
 
 -- ---- a module that had no Process open
-
--- an Idle module has no command, and one that is Down has none
-pub idle_not : (c : Command) → idle ≡ busy c → ⊥
-idle_not c e = cc
 
 pub down_not : (c : Command) → down ≡ busy c → ⊥
 down_not c e = cc
@@ -183,7 +180,7 @@ module_row_sound f m row starts one sound =
     row_7 plan None at e = absurd (cc)
     row_7 plan (Some Idle) at e = absurd (cc)
     row_7 plan (Some Down) at e = absurd (cc)
-    row_7 plan (Some (Busy c fetched)) at e = command_closed f sound m 7 c fetched at idle idle_not refl c.task refl
+    row_7 plan (Some (Busy c fetched)) at e = command_closed f sound m 7 c fetched at idle idle_not_busy refl c.task refl
 
     -- Failed
     row_8 : (plan : Option Move) (o : Option ToolModule) → module_at m f.modules ≡ o → move_starts 8 plan o ≡ true → SoundOrBut f m (floor_fired (firing 16 m 8) f)
@@ -195,7 +192,7 @@ module_row_sound f m row starts one sound =
     -- Down
     row_9 : (plan : Option Move) (o : Option ToolModule) → module_at m f.modules ≡ o → move_starts 9 plan o ≡ true → SoundOrBut f m (floor_fired (firing 16 m 9) f)
     row_9 plan None at e = absurd (cc)
-    row_9 plan (Some Idle) at e = inl (turned_sound f sound m 9 Idle at down down_not refl (λ k d u t. idle_not d u))
+    row_9 plan (Some Idle) at e = inl (turned_sound f sound m 9 Idle at down down_not refl (λ k d u t. idle_not_busy d u))
     row_9 plan (Some Down) at e = absurd (cc)
     row_9 plan (Some (Busy c fetched)) at e = command_closed f sound m 9 c fetched at down down_not refl c.task refl
 
@@ -204,4 +201,4 @@ module_row_sound f m row starts one sound =
     row_10 plan None at e = absurd (cc)
     row_10 plan (Some Idle) at e = absurd (cc)
     row_10 plan (Some (Busy c fetched)) at e = absurd (cc)
-    row_10 plan (Some Down) at e = inl (turned_sound f sound m 10 Down at idle idle_not refl (λ k d u t. down_not d u))
+    row_10 plan (Some Down) at e = inl (turned_sound f sound m 10 Down at idle idle_not_busy refl (λ k d u t. down_not d u))

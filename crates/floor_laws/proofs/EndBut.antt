@@ -26,22 +26,14 @@ use Rattle.picture_laws.proofs.Rows.{processing_agrees}
 use Rattle.floor_laws.proofs.EndBase.{changed_base}
 use Rattle.floor_laws.proofs.EndPlaces.{module_base}
 use Rattle.floor_laws.proofs.EndRows.{moves_leaves}
-
-abbrev IsOne : ℕ → Type 0
-IsOne k = k ≡ 1
+use Rattle.place_laws.proofs.Holding.{IsOne}
 
 -- ---- rows 3 and 4 of table 13
 
 -- they start IN PROCESS
-is_running : (p : Processing) → is_among processing_number (processing.InProcess ∷ []) p ≡ true → p ≡ processing.InProcess
-is_running processing.NeedsProcessing e = absurd (cc)
+pub is_running : (p : Processing) → is_among processing_number (processing.InProcess ∷ []) p ≡ true → p ≡ processing.InProcess
 is_running processing.InProcess e = refl
-is_running processing.Processed e = absurd (cc)
-is_running processing.Aborted e = absurd (cc)
-is_running processing.Stopped e = absurd (cc)
-is_running processing.Rejected e = absurd (cc)
-is_running processing.Lost e = absurd (cc)
-is_running processing.Skipped e = absurd (cc)
+is_running _ e = absurd (cc)
 
 -- and the other way
 running : (p : Processing) → processing_number p ≡ 1 → p ≡ processing.InProcess

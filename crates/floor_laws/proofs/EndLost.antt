@@ -1,5 +1,5 @@
 -- `lost` keeps what holds: the substrate has no place any more, and no open command named it.
-use Rattle.std.proofs.Common.{◌≡◌, ℕ, Bool, true, false, not, if◌then◌else◌, cond, List, [], ◌∷◌, Option, Some, None, option_map, refl, sym, ◌∙◌, ap, subst, arith}
+use Rattle.std.proofs.Common.{◌≡◌, ℕ, Bool, true, false, not, if◌then◌else◌, cond, List, [], ◌∷◌, Option, Some, None, option_map, refl, sym, ◌∙◌, ap, subst}
 use Rattle.std.specs.List.{list_any}
 use Rattle.std.specs.Str.{bytes_eq}
 use Rattle.std.proofs.lemmas.Bool.{and_parts, not-true}
@@ -13,12 +13,10 @@ use Rattle.robot_moves.specs.declared.module.Module.{Module as ToolModule}
 use Rattle.robot_moves.specs.declared.module.Module.TheVariants.{Idle, Busy, Down}
 use Rattle.robot_moves.specs.Modules.{module_at}
 use Rattle.shop_floor.proofs.Apart.{all_filtered}
-use Rattle.substrate.specs.Locations.{is_same, is_location}
-use Rattle.substrate.specs.Places.{name_of, PlaceMap, ArePlaces, has_name, substrate_named, is_there, without, removed}
+use Rattle.substrate.specs.Locations.{is_same}
+use Rattle.substrate.specs.Places.{PlaceMap, has_name, substrate_named, is_there, without, removed}
 use Rattle.substrate.specs.declared.registered.Registered.{Registered}
-use Rattle.records.proofs.Apart.{apart_fewer, length_fewer}
 use Rattle.substrate.proofs.Sites.{own_place as same_place}
-use Rattle.substrate.proofs.Standing.{placed_fewer, all_fewer, numbered_fewer}
 use Rattle.records.proofs.Texts.{same_name, turned}
 use Rattle.floor_model.specs.declared.tracked.Substrate.{Substrate}
 use Rattle.floor_model.specs.Floor.{ToolFloor, substrate_numbered, number_of}
@@ -34,9 +32,16 @@ use Rattle.place_laws.specs.Sound.{IsOfKept, Base, Sound}
 use Rattle.place_laws.proofs.Holding.{found_among, kept_there, own_place}
 use Rattle.picture_laws.proofs.Lost.{losing_agrees}
 use Rattle.floor_laws.proofs.EndBase.{changed_base}
-use Rattle.floor_laws.proofs.EndNames.{loc_one, name_is, place_is}
-use Rattle.floor_laws.proofs.EndOpen.{any_at, unnamed}
+use Rattle.floor_laws.proofs.EndNames.{name_is, place_is}
+use Rattle.floor_laws.proofs.EndOpen.{unnamed}
 use Rattle.floor_laws.proofs.EndRows.{moves_leaves}
+use Rattle.place_laws.proofs.Names.{loc_one}
+use Rattle.floor_laws.proofs.RemPlaces.{removed_places}
+use Rattle.floor_laws.proofs.JobSight.{any_at}
+use Rattle.floor_moves.specs.Agree.{Agree}
+use Rattle.floor_moves.specs.Effects.{lost}
+use Rattle.floor_moves.proofs.Maps.{set_here, set_else}
+use Rattle.floor_model.specs.Modules.{number_named}
 
 -- ---- one has no place any more
 
@@ -71,7 +76,7 @@ module _ (sub : List ℕ) where
     pub modules_same : (ms : List ToolModule) → list_any (module_names sub) ms ≡ false → (m : ℕ) → module_of (module_at m ms) (removed sub p) ≡ module_of (module_at m ms) p
     modules_same ms none m = of (module_at m ms) refl where
       by : (o : ToolModule) → module_at m ms ≡ Some o → (b : Bool) → module_names sub o ≡ b → b ≡ false
-      by o at true q = let t = any_at (module_names sub) m ms o at q in cc
+      by o at true q = let t = any_at (module_names sub) ms m o at q in cc
       by o at false q = refl
 
       of : (o : Option ToolModule) → module_at m ms ≡ o → module_of o (removed sub p) ≡ module_of o p
@@ -79,16 +84,6 @@ module _ (sub : List ℕ) where
       of (Some Idle) at = refl
       of (Some (Busy c fetched)) at = ap (λ (t : Task). busy (record { number = c.number.0; task = t })) (same_task c.task (by (Busy c fetched) at (bytes_eq (named_by c.task) sub) refl))
       of (Some Down) at = refl
-
-    -- the places keep their rules
-    fewer_places : ArePlaces p → ArePlaces (removed sub p)
-    fewer_places a = record {
-      named_apart = apart_fewer name_of (λ r. not (has_name sub r)) p.held a.named_apart;
-      placed_apart = placed_fewer sub p.held a.placed_apart;
-      within = all_fewer sub (λ r. is_location p.ports p.chambers r.at) p.held a.within;
-      numbered = numbered_fewer sub 0 p.given p.held a.numbered;
-      few = let less = length_fewer (λ (r : Registered). not (has_name sub r)) p.held in let most = a.few in omega (arith, less, most);
-    }
 
   -- what holds besides numbers is kept
   pub removed_base : (f : ToolFloor) → Base f → Base (record f { places = removed sub f.places })
@@ -100,7 +95,7 @@ module _ (sub : List ℕ) where
     rising = b.rising;
     same_ports = b.same_ports;
     modules = b.modules;
-    places = fewer_places f.places b.places;
+    places = removed_places sub f.places b.places;
     held = all_filtered (IsOfKept f.substrates) (IsOfKept f.substrates) (λ r. not (has_name sub r)) f.places.held (λ r other is. is) b.held;
     jobs = record { numbered = b.jobs.numbered; given = b.jobs.given; members = b.jobs.members };
   }
@@ -169,6 +164,10 @@ module _ (f : ToolFloor) (n : ℕ) (sub : List ℕ) (sound : Sound f) (is : IsLo
     by Arm q = ap is_outside (at_number ∙ ap (λ (l : LocId). Some (loc_of l)) q)
     by (Chamber c) q = ap is_outside (at_number ∙ ap (λ (l : LocId). Some (loc_of l)) q)
 
+  -- it is one write: by numbers the substrate is LOST, and has no place
+  loses : Agree (lost n (picture f)) (picture (floor_fired (firing 13 n 8) f))
+  loses = losing_agrees n is.one is.at f sound.base.places is.known its_place is.number (modules_same is.one.sub f.places f.modules is.free)
+
   -- all that holds is kept
   goes_away : Sound (floor_fired (firing 13 n 8) f)
   goes_away = record {
@@ -176,10 +175,20 @@ module _ (f : ToolFloor) (n : ℕ) (sub : List ℕ) (sound : Sound f) (is : IsLo
         (changed_base n (substrate_moves 13 8) (moves_leaves 13 8) (record f { places = removed is.one.sub f.places }) (removed_base is.one.sub f sound.base));
     ports = sound.ports;
     unloading = sound.unloading;
-    valid = agree-keeps _ _ (losing_agrees n is.one is.at f sound.base.places is.known its_place is.number (modules_same is.one.sub f.places f.modules is.free))
-        (lost-keeps (picture f) n outside (unnamed f sound.base sound.valid.commands n is.one is.known is.free) sound.valid);
+    valid = agree-keeps _ _ loses (lost-keeps (picture f) n outside (unnamed f sound.base sound.valid.commands n is.one is.known is.free) sound.valid);
   }
 
 -- by the word
 pub lost_sound : (f : ToolFloor) (n : ℕ) (sub : List ℕ) → lost_rows sub f ≡ firing 13 n 8 ∷ [] → Sound f → Sound (floor_fired (firing 13 n 8) f)
 lost_sound f n sub e sound = goes_away f n sub sound (lost_tells f n sub e)
+
+-- and what becomes of the places
+pub lost_places : (f : ToolFloor) (n : ℕ) (sub : List ℕ) → lost_rows sub f ≡ firing 13 n 8 ∷ [] → Sound f
+    → (number_named sub f.places ≡ Some n) × (place_in (floor_fired (firing 13 n 8) f).places n ≡ None) × ((k : ℕ) → (k ≡ n → ⊥) → place_in (floor_fired (firing 13 n 8) f).places k ≡ place_in f.places k)
+lost_places f n sub e sound =
+    let is = lost_tells f n sub e in
+    let a = loses f n sub sound is in (
+      ap (option_map (λ (r : Registered). r.number)) is.there ∙ ap (λ (k : ℕ). Some k) is.number,
+      a.place_of n ∙ set_here n None (picture f).place_of,
+      λ k other. a.place_of k ∙ set_else n k None (picture f).place_of other,
+    )

@@ -1,5 +1,5 @@
 -- Open commands by the names of substrates and by their numbers.
-use Rattle.std.proofs.Common.{◌≡◌, ℕ, zero, suc, Bool, true, false, ◌||◌, List, [], ◌∷◌, Option, Some, None, slice_get, refl, sym, ◌∙◌, ap}
+use Rattle.std.proofs.Common.{◌≡◌, ℕ, Bool, true, false, ◌||◌, List, [], ◌∷◌, Option, Some, None, refl, sym, ◌∙◌, ap}
 use Rattle.std.specs.List.{list_any}
 use Rattle.std.specs.Str.{bytes_eq}
 use Rattle.tool_tasks.specs.declared.task.Command.{Command as ToolCommand}
@@ -19,34 +19,7 @@ use Rattle.floor_moves.specs.Valid.{Commands, IsProcessed, IsUnnamed}
 use Rattle.place_laws.specs.Picture.{picture, loc_of, place_in, numbered, task_of, module_of}
 use Rattle.place_laws.specs.Sound.{Base}
 use Rattle.floor_laws.proofs.EndNames.{named_place, number_there, name_is, number_is}
-
--- ---- the modules of a list
-
-module _ {A : Type 0} (test : A → Bool) where
-  -- where one at a place passes, one does
-  any_get : (n : ℕ) (xs : List A) (x : A) → slice_get xs n ≡ Some x → test x ≡ true → list_any test xs ≡ true
-  any_get n [] x e p = absurd (cc)
-  any_get zero (y ∷ ys) x e p = let same : y ≡ x = cc in ap (λ (b : Bool). b || list_any test ys) (ap test same ∙ p)
-  any_get (suc n) (y ∷ ys) x e p = of (test y) (any_get n ys x e p) where
-    of : (b : Bool) → list_any test ys ≡ true → (b || list_any test ys) ≡ true
-    of true q = refl
-    of false q = q
-
-  -- where one passes, one at a place does
-  get_any : (xs : List A) → list_any test xs ≡ true → (n : ℕ) × (x : A) × (slice_get xs n ≡ Some x) × (test x ≡ true)
-  get_any [] e = absurd (cc)
-  get_any (y ∷ ys) e = of (test y) refl e (get_any ys) where
-    of : (b : Bool) → test y ≡ b → (b || list_any test ys) ≡ true → (list_any test ys ≡ true → (n : ℕ) × (x : A) × (slice_get ys n ≡ Some x) × (test x ≡ true)) → (n : ℕ) × (x : A) × (slice_get (y ∷ ys) n ≡ Some x) × (test x ≡ true)
-    of true q f rest = (zero, y, refl, q)
-    of false q f rest = let w = rest f in (suc w.0, w.1, w.2, w.3)
-
--- the same, by the numbers of modules
-pub any_at : (test : ToolModule → Bool) (m : ℕ) (ms : List ToolModule) (x : ToolModule) → module_at m ms ≡ Some x → test x ≡ true → list_any test ms ≡ true
-any_at test zero ms x e p = absurd (cc)
-any_at test (suc n) ms x e p = any_get test n ms x e p
-
-pub at_any : (test : ToolModule → Bool) (ms : List ToolModule) → list_any test ms ≡ true → (m : ℕ) × (x : ToolModule) × (module_at m ms ≡ Some x) × (test x ≡ true)
-at_any test ms e = let w = get_any test ms e in (suc w.0, w.1, w.2, w.3)
+use Rattle.floor_laws.proofs.JobSight.{any_at, any_there}
 
 -- ---- one command
 
@@ -118,7 +91,7 @@ module _ (f : ToolFloor) (b : Base f) (v : Commands (picture f)) where
         let o = busy_tells f m d e in
         let number : numbered (named_by o.its.task) f.places ≡ n = sym (named_of o.its.task f.places) ∙ ap (λ (x : Command). named x.task) o.is ∙ is in
         let name = name_told m o.its o.fetched o.at number in
-        any_at (module_names s.sub) m f.modules (Busy o.its o.fetched) o.at (ap (λ (t : List ℕ). bytes_eq t s.sub) (sym name) ∙ own_name s.sub)
+        any_at (module_names s.sub) f.modules m (Busy o.its o.fetched) o.at (ap (λ (t : List ℕ). bytes_eq t s.sub) (sym name) ∙ own_name s.sub)
 
     -- where none names it by name, none does by number
     pub unnamed : list_any (module_names s.sub) f.modules ≡ false → IsUnnamed n (picture f)
@@ -136,7 +109,7 @@ module _ (f : ToolFloor) (b : Base f) (v : Commands (picture f)) where
       by o fetched at (task.Align sub) q g = absurd (cc)
       by o fetched at (task.Process sub recipe) q g =
           let name : s.sub ≡ sub = name_told m o fetched at (ap (λ (t : ToolTask). numbered (named_by t) f.places) q ∙ process_one (numbered sub f.places) g) ∙ ap named_by q in
-          any_at (processes s.sub) m f.modules (Busy o fetched) at (processes_is o fetched sub recipe q (sym name)) where
+          any_at (processes s.sub) f.modules m (Busy o fetched) at (processes_is o fetched sub recipe q (sym name)) where
             processes_is : (c : ToolCommand) (x : Bool) (sub recipe : List ℕ) → c.task ≡ task.Process sub recipe → sub ≡ s.sub → processes s.sub (Busy c x) ≡ true
             processes_is c x sub recipe q same = rw q (ap (λ (t : List ℕ). bytes_eq t s.sub) same ∙ own_name s.sub)
 
@@ -145,7 +118,7 @@ module _ (f : ToolFloor) (b : Base f) (v : Commands (picture f)) where
 
     -- and the other way
     pub processes_busy : list_any (processes s.sub) f.modules ≡ true → IsProcessed n (picture f)
-    processes_busy e = let w = at_any (processes s.sub) f.modules e in of w.0 w.1 w.2 w.3 where
+    processes_busy e = let w = any_there (processes s.sub) f.modules e in of w.0 w.1 w.2 w.3 where
       by : (m : ℕ) (c : ToolCommand) (fetched : Bool) → module_at m f.modules ≡ Some (Busy c fetched) → (t : ToolTask) → c.task ≡ t → processes s.sub (Busy (record c { task = t }) fetched) ≡ true → IsProcessed n (picture f)
       by m c fetched at (task.Pick sub from) q g = absurd (cc)
       by m c fetched at (task.Place sub to) q g = absurd (cc)
@@ -156,6 +129,5 @@ module _ (f : ToolFloor) (b : Base f) (v : Commands (picture f)) where
           (m, command_of c f.places, busy_at f m c fetched at, ap (λ (t : ToolTask). task_of t f.places) q ∙ ap process number)
 
       of : (m : ℕ) (x : ToolModule) → module_at m f.modules ≡ Some x → processes s.sub x ≡ true → IsProcessed n (picture f)
-      of m Idle at g = absurd (cc)
       of m (Busy c fetched) at g = by m c fetched at c.task refl g
-      of m Down at g = absurd (cc)
+      of m _ at g = absurd (cc)

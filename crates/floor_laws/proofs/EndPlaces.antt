@@ -2,14 +2,13 @@
 use Rattle.std.proofs.Common.{◌≡◌, ◌≤◌, ◌<◌, ℕ, zero, suc, ◌+◌, ◌==◌, nat_le, Bool, true, false, not, ◌&&◌, ◌||◌, if◌then◌else◌, List, [], ◌∷◌, length, Option, Some, IsSomeAnd, refl, sym, ◌∙◌, ap, subst, arith}
 use Rattle.std.specs.List.{AllByRecursion}
 use Rattle.std.proofs.lemmas.Bool.Decides.{Decides-eqb, nat_tests}
-use Rattle.gem_tables.specs.Table.{update_at, is_one_of}
+use Rattle.gem_tables.specs.Table.{is_one_of}
 use Rattle.gem_tables.proofs.Rows.{both}
 use Rattle.gem_ids.specs.declared.numbers.LocId.{LocId}
 use Rattle.gem_ids.specs.declared.numbers.LocId.TheVariants.{Slot, Chamber}
 use Rattle.gem_ids.specs.declared.numbers.PortNo.{PortNo}
 use Rattle.gem_ids.specs.declared.numbers.SlotNo.{SlotNo}
 use Rattle.robot_moves.specs.declared.module.Module.{Module as ToolModule}
-use Rattle.robot_moves.specs.Modules.{change_module}
 use Rattle.shop_floor.proofs.Present.{has_number, numbered_contained}
 use Rattle.substrate.specs.Locations.{is_same, is_location}
 use Rattle.substrate.specs.Places.{PlaceMap, ArePlaces, has_name, substrate_named, is_there, is_taken, moves_to, moved, shifted, can_shift}
@@ -23,19 +22,11 @@ use Rattle.floor_moves.specs.Valid.{Empty}
 use Rattle.place_laws.specs.Picture.{picture, loc_of, numbers_from}
 use Rattle.place_laws.specs.Sound.{IsOfKept, Base}
 use Rattle.place_laws.proofs.Holding.{IsThere, kept_there, own_place}
-use Rattle.floor_laws.proofs.EndNames.{loc_one, taken_tells}
+use Rattle.floor_laws.proofs.EndNames.{taken_tells}
+use Rattle.place_laws.proofs.Names.{loc_one}
+use Rattle.floor_laws.proofs.IssueSound.{changed_many}
 
 -- ---- modules
-
--- so many modules as there were
-changed_length : (n : ℕ) (change : ToolModule → ToolModule) (ms : List ToolModule) → length (update_at n change ms) ≡ length ms
-changed_length n change [] = refl
-changed_length zero change (m ∷ ms) = refl
-changed_length (suc n) change (m ∷ ms) = ap suc (changed_length n change ms)
-
-module_length : (m : ℕ) (change : ToolModule → ToolModule) (ms : List ToolModule) → length (change_module m change ms) ≡ length ms
-module_length zero change ms = refl
-module_length (suc n) change ms = changed_length n change ms
 
 -- a module changes
 pub module_base : (m : ℕ) (change : ToolModule → ToolModule) (f : ToolFloor) → Base f → Base (with_module m change f)
@@ -46,7 +37,7 @@ module_base m change f b = record {
   apart = b.apart;
   rising = b.rising;
   same_ports = b.same_ports;
-  modules = let same = module_length m change f.modules in let less = b.modules in omega (arith, same, less);
+  modules = let same = changed_many m change f.modules in let less = b.modules in omega (arith, same, less);
   places = b.places;
   held = b.held;
   jobs = record { numbered = b.jobs.numbered; given = b.jobs.given; members = b.jobs.members };

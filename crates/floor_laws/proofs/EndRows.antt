@@ -29,6 +29,7 @@ use Rattle.picture_laws.proofs.Rows.{transport-keeps, processing_agrees}
 use Rattle.floor_laws.proofs.EndBase.{Leaves, changed_base}
 use Rattle.floor_laws.proofs.EndNames.{number_is, place_is}
 use Rattle.floor_laws.proofs.EndOpen.{busy_names, busy_processes, processes_busy}
+use Rattle.place_laws.proofs.Holding.{IsOne}
 
 -- a row of a substrate leaves what it is of
 pub moves_leaves : (table row : ℕ) → Leaves (substrate_moves table row)
@@ -42,19 +43,10 @@ transport_sound f n row s = record { base = changed_base n (substrate_moves 12 r
 
 -- ---- table 13
 
-abbrev IsOne : ℕ → Type 0
-IsOne k = k ≡ 1
-
 -- the rows from NEEDS PROCESSING start there
-is_needing : (p : Processing) → is_among processing_number (processing.NeedsProcessing ∷ []) p ≡ true → p ≡ processing.NeedsProcessing
+pub is_needing : (p : Processing) → is_among processing_number (processing.NeedsProcessing ∷ []) p ≡ true → p ≡ processing.NeedsProcessing
 is_needing processing.NeedsProcessing e = refl
-is_needing processing.InProcess e = absurd (cc)
-is_needing processing.Processed e = absurd (cc)
-is_needing processing.Aborted e = absurd (cc)
-is_needing processing.Stopped e = absurd (cc)
-is_needing processing.Rejected e = absurd (cc)
-is_needing processing.Lost e = absurd (cc)
-is_needing processing.Skipped e = absurd (cc)
+is_needing _ e = absurd (cc)
 
 -- the substrate goes to a state that may be
 worked_sound : (f : ToolFloor) (n row : ℕ) (s : Substrate) (state : ℕ) → substrate_numbered n f.substrates ≡ Some s → processing_number (after processing_number processing_table row s.states.processing) ≡ state → MayWork n state (picture f) → Sound f → Sound (with_moved 13 row n f)

@@ -19,9 +19,10 @@ use Rattle.place_laws.specs.Picture.{task_of}
 use Rattle.place_laws.specs.Sound.{Sound, SoundBut}
 use Rattle.floor_laws.specs.Rows.{one_listed, listed}
 use Rattle.floor_laws.proofs.EndMoves.{pick_sound, place_sound, align_sound}
-use Rattle.floor_laws.proofs.EndAnswers.{idle_not, down_not, turned_sound, process_but, other_closed}
+use Rattle.floor_laws.proofs.EndAnswers.{down_not, turned_sound, process_but, other_closed}
 use Rattle.floor_laws.proofs.EndBut.{but_sound, but_left_sound}
 use Rattle.floor_laws.proofs.EndLost.{lost_sound}
+use Rattle.floor_moves.proofs.Moving.{idle_not_busy}
 
 -- ---- rows one behind the other
 
@@ -62,7 +63,7 @@ but_listed : (n row : ℕ) (g : ToolFloor) → is_one_of (3 ∷ 4 ∷ []) row �
 but_listed n row g one but = listed_either Sound (firing 13 n row) g (λ starts. but_sound g n row one starts but) (λ left. but_left_sound g n row one left but)
 
 -- it is 3 or 4
-done_one : (n : ℕ) (f : ToolFloor) → is_one_of (3 ∷ 4 ∷ []) (done_processing n f) ≡ true
+pub done_one : (n : ℕ) (f : ToolFloor) → is_one_of (3 ∷ 4 ∷ []) (done_processing n f) ≡ true
 done_one n f = of (is_of_aborting (substrate_numbered n f.substrates) f) where
   of : (b : Bool) → is_one_of (3 ∷ 4 ∷ []) (if b then 4 else 3) ≡ true
   of true = refl
@@ -86,7 +87,7 @@ module _ (m : ℕ) (f : ToolFloor) (sound : Sound f) (c : Command) (fetched : Bo
   of_task (task.Place sub to) q = alone 5 (done_starts m f c fetched here (task.Place sub to) q) (place_sound f sound m c fetched here sub to q)
   of_task (task.Align sub) q = alone 6 (done_starts m f c fetched here (task.Align sub) q) (align_sound f sound m c fetched here sub q)
   of_task (task.Process sub recipe) q =
-      let w = process_but f sound m 7 c fetched here _ idle_not refl sub recipe q in
+      let w = process_but f sound m 7 c fetched here _ idle_not_busy refl sub recipe q in
       subst (λ (o : Option ℕ). Sound (listed (firing 16 m 7 ∷ at_done o f) f)) (sym w.1)
       (followed 7 w.0 (done_processing w.0 f) (done_starts m f c fetched here (task.Process sub recipe) q) (done_one w.0 f) w.2)
 
@@ -142,7 +143,7 @@ down_sound number f up sound = of (module_at number f.modules) refl up where
   -- it had nothing open
   idle : module_at number f.modules ≡ Some Idle → Sound (listed (firing 16 number 9 ∷ []) f)
   idle here =
-      listed_either Sound (firing 16 number 9) f (λ starts. turned_sound f sound number 9 Idle here _ down_not refl (λ k d u t. idle_not d u)) (λ left. sound)
+      listed_either Sound (firing 16 number 9) f (λ starts. turned_sound f sound number 9 Idle here _ down_not refl (λ k d u t. idle_not_busy d u)) (λ left. sound)
 
   of : (o : Option Module) → module_at number f.modules ≡ o → is_up o ≡ true → Sound (listed (closing_at 9 number o f) f)
   of None here e = absurd (cc)

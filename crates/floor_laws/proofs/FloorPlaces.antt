@@ -26,19 +26,19 @@ use Rattle.floor_moves.specs.Floor.{arm}
 use Rattle.floor_moves.specs.OnePlace.{OnePlace}
 use Rattle.floor_moves.proofs.Promised.{one_place, one_place_between}
 use Rattle.place_laws.specs.Picture.{picture, loc_of, place_in}
-use Rattle.place_laws.specs.Sound.{Base, Sound, SoundBut}
+use Rattle.place_laws.specs.Sound.{Sound, SoundBut}
 use Rattle.floor_laws.specs.Rows.{one_listed, listed}
 use Rattle.floor_laws.specs.Moves.{Picked, Placed, DoneAt, LostAt}
 use Rattle.floor_laws.proofs.FloorInputs.{listed_either, listed_starts, done_starts, failed_starts, down_starts}
 use Rattle.floor_laws.proofs.ShopTables.{transfer_valid}
 use Rattle.floor_laws.proofs.EndAnswers.{SoundOrBut, module_row_sound}
-use Rattle.floor_laws.proofs.GrowLost.{lost_places}
 use Rattle.floor_laws.proofs.GrowRows.{move_same, processing_same}
 use Rattle.floor_laws.proofs.GrowTransfer.{Transfers, pick_places, place_places}
 use Rattle.floor_laws.proofs.OpenCommands.{Opens, opens_same, opens_then, IsShut, shut_stays, open_given}
 use Rattle.floor_laws.proofs.OpenRows.{row_opens}
 use Rattle.floor_laws.proofs.OpenClosed.{closing, closed_gone}
 use Rattle.floor_laws.proofs.RegFound.{few_substrates}
+use Rattle.floor_laws.proofs.EndLost.{lost_places}
 
 -- ---- rows that leave the places
 
@@ -51,7 +51,7 @@ substrate_still : (n row : ℕ) (f : ToolFloor) → (row == 8) ≡ false → (on
 substrate_still n row f other = listed_either (λ (g : ToolFloor). g.places ≡ f.places) (firing 13 n row) f (λ starts. processing_same row (substrate_numbered n f.substrates) f other) (λ left. refl)
 
 -- the row behind a Process that is done
-done_still : (n : ℕ) (f : ToolFloor) → (done_processing n f == 8) ≡ false
+pub done_still : (n : ℕ) (f : ToolFloor) → (done_processing n f == 8) ≡ false
 done_still n f = of (is_of_aborting (substrate_numbered n f.substrates) f) where
   of : (b : Bool) → ((if b then 4 else 3) == 8) ≡ false
   of true = refl
@@ -135,8 +135,8 @@ closing_places row number f other = of (module_at number f.modules) where
 -- ---- `lost`
 
 -- the places behind the rows of `lost`
-pub lost_listed : (sub : List ℕ) (f : ToolFloor) → Base f → LostAt sub f (listed (lost_rows sub f) f)
-lost_listed sub f base = of (number_named sub f.places) refl where
+pub lost_listed : (sub : List ℕ) (f : ToolFloor) → Sound f → LostAt sub f (listed (lost_rows sub f) f)
+lost_listed sub f sound = of (number_named sub f.places) refl where
   stays : LostAt sub f f
   stays = record { places = λ n. inl refl; given = refl }
 
@@ -147,7 +147,7 @@ lost_listed sub f base = of (number_named sub f.places) refl where
   goes : (k : ℕ) → lost_rows sub f ≡ firing 13 k 8 ∷ [] → LostAt sub f (floor_fired (firing 13 k 8) f)
   goes k is = record { places = λ n. by n (n == k) refl; given = given_same (substrate_numbered k f.substrates) } where
     w : (number_named sub f.places ≡ Some k) × (place_in (floor_fired (firing 13 k 8) f).places k ≡ None) × ((n : ℕ) → (n ≡ k → ⊥) → place_in (floor_fired (firing 13 k 8) f).places n ≡ place_in f.places n)
-    w = lost_places f k sub is base
+    w = lost_places f k sub is sound
 
     by : (n : ℕ) (b : Bool) → (n == k) ≡ b → (place_in (floor_fired (firing 13 k 8) f).places n ≡ place_in f.places n) ⊎ ((number_named sub f.places ≡ Some n) × (place_in (floor_fired (firing 13 k 8) f).places n ≡ None))
     by n true e =

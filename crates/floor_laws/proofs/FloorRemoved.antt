@@ -16,7 +16,7 @@ use Rattle.floor_laws.proofs.GrowTaken.{by_its_number}
 use Rattle.floor_laws.proofs.GrowEnds.{over_ended, ends_at}
 use Rattle.floor_laws.proofs.RemSound.{OwnerEnded, removal_sound}
 
-owner_ended : (port : ℕ) (f : ToolFloor) → floor_starts (firing 4 port 5) f ≡ true → shop.floor_least f.shop ≡ None → Sound f → OwnerEnded port f
+pub owner_ended : (port : ℕ) (f : ToolFloor) → floor_starts (firing 4 port 5) f ≡ true → shop.floor_least f.shop ≡ None → Sound f → OwnerEnded port f
 owner_ended port f starts rests sound name c its found = of c.present refl where
   of : (b : Bool) → c.present ≡ b → HasEnded c.number (picture f)
   of true present = ends_at port f starts rests sound.base.shop sound.unloading name c its found present

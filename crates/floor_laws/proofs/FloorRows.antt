@@ -39,17 +39,13 @@ use Rattle.floor_laws.proofs.EndAnswers.{SoundOrBut, module_row_sound}
 use Rattle.floor_laws.proofs.JobProcess.{process_sound}
 use Rattle.floor_laws.proofs.JobCreated.{control_sound}
 use Rattle.floor_laws.proofs.IssueSound.{issue_sound}
+use Rattle.std.proofs.Math.Bool.{or-false}
 
 -- ---- rows that keep what holds wherever they start
 
 -- no row is said to be one that it isn't
 not_itself : {P : Type 0} → false ≡ true → P
 not_itself e = absurd (cc)
-
--- the one that is left
-or_none : (b : Bool) → (b || false) ≡ true → b ≡ true
-or_none true e = refl
-or_none false e = e
 
 module _ (f : ToolFloor) (sound : Sound f) where
   -- table 9
@@ -101,13 +97,13 @@ row_sound x f starts common sound =
               (
                 (λ s kind. slots f sound x.object x.row.row s),
                 (
-                  (λ s kind. shop_row_sound (firing 10 x.object x.row.row) f s (or_none (not (x.row.row == 4)) kind) sound),
+                  (λ s kind. shop_row_sound (firing 10 x.object x.row.row) f s (sym (or-false (not (x.row.row == 4))) ∙ kind) sound),
                   (
                     (λ s kind. shop_row_sound (firing 11 x.object x.row.row) f s refl sound),
                     (
                       (λ s kind. transport_sound f x.object x.row.row sound),
                       (
-                        (λ s kind. processing f sound x.object x.row.row s (or_none (is_one_of (1 ∷ 2 ∷ 5 ∷ []) x.row.row) kind)),
+                        (λ s kind. processing f sound x.object x.row.row s (sym (or-false (is_one_of (1 ∷ 2 ∷ 5 ∷ []) x.row.row)) ∙ kind)),
                         ((λ s kind. process_sound f x.object x.row.row s sound), ((λ s kind. control_sound f x.object x.row.row sound), ((λ s kind. moves f sound x.object x.row.row s kind), tt))),
                       ),
                     ),

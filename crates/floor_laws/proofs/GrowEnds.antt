@@ -7,7 +7,7 @@ use Rattle.gem_tables.specs.Table.{firing, is_among}
 use Rattle.gem_ids.specs.declared.numbers.PortNo.{PortNo}
 use Rattle.load_port.specs.declared.port.Port.{Port}
 use Rattle.load_port.specs.declared.record.Transfer.{Transfer}
-use Rattle.load_port.specs.declared.record.Transfer.TheVariants.{OutOfService, TransferBlocked, ReadyToLoad, ReadyToUnload}
+use Rattle.load_port.specs.declared.record.Transfer.TheVariants.{ReadyToUnload}
 use Rattle.load_port.specs.Record.{is_unloadable}
 use Rattle.load_port.specs.Tables.{PortRow, transfer_number, transfer_table}
 use Rattle.load_port.specs.Ports.{port_numbered}
@@ -76,14 +76,11 @@ over_ended c f there over = of c.states.access refl (is_map_verified c.states.ma
   of a is false read e = inr (unread false read)
   of access.Complete is true read e = inl (let k = accessed access.Complete is in omega (arith, k))
   of access.Stopped is true read e = inl (let k = accessed access.Stopped is in omega (arith, k))
-  of access.NotAccessed is true read e = absurd (true≢false (sym e ∙ ap (λ (a : Accessing). is_done a || not (is_map_verified c.states.map)) is ∙ ap not read))
-  of access.InAccess is true read e = absurd (true≢false (sym e ∙ ap (λ (a : Accessing). is_done a || not (is_map_verified c.states.map)) is ∙ ap not read))
+  of _ is true read e = absurd (true≢false (sym e ∙ ap (λ (a : Accessing). is_done a || not (is_map_verified c.states.map)) is ∙ ap not read))
 
 among_unload : (t : Transfer) → is_among transfer_number (ReadyToUnload ∷ []) t ≡ true → is_unloadable t ≡ true
-among_unload OutOfService e = absurd (cc)
-among_unload TransferBlocked e = absurd (cc)
-among_unload ReadyToLoad e = absurd (cc)
 among_unload ReadyToUnload e = refl
+among_unload _ e = absurd (cc)
 
 -- a port from which a carrier is removed is READY TO UNLOAD
 unloads_there : (port : ℕ) (f : ToolFloor) → shop.floor_starts (firing 4 port 5) f.shop ≡ true → unloads (port_numbered port f.shop.ports) ≡ true

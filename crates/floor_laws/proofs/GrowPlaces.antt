@@ -14,7 +14,8 @@ use Rattle.floor_model.specs.Substrates.{can_register, first_substrate, register
 use Rattle.floor_moves.specs.Floor.{Loc, slot}
 use Rattle.place_laws.specs.Picture.{loc_of, place_in}
 use Rattle.place_laws.proofs.Appended.{not_last}
-use Rattle.floor_laws.proofs.GrowFound.{numbered_in, none_past, place_given}
+use Rattle.floor_laws.proofs.GrowFound.{none_past, place_given}
+use Rattle.place_laws.proofs.Names.{numbered_in}
 
 module _ (May : ℕ → Type 0) where
   -- a substrate in a slot of a port whose carrier may be taken away has no place any more

@@ -27,6 +27,7 @@ use Rattle.floor_model.specs.Substrates.{reaches_verified, registers_found, with
 use Rattle.floor_model.specs.Views.{planned}
 use Rattle.place_laws.specs.Sound.{Base}
 use Rattle.floor_laws.proofs.GrowPlaces.{Grown, grown_same, as_places, found_grown}
+use Rattle.std.proofs.lemmas.Bool.{not-true}
 
 -- it is neither row 6 of table 7, which takes a carrier away with its substrates, nor row 8 of table 13, by which a substrate is lost, nor
 -- row 5 of table 16, by which one moves
@@ -128,7 +129,7 @@ module _ (May : ℕ → Type 0) where
                         (λ s kind. grown_same May f _ refl),
                         (
                           (λ s kind. grown_same May f _ (processing_same x.row.row (substrate_numbered x.object f.substrates) f (first (x.row.row == 8) kind))),
-                          ((λ s kind. grown_same May f _ (job_same _ _ f)), ((λ s kind. grown_same May f _ refl), ((λ s kind. grown_same May f _ (move_same x.row.row x.object (planned x.object f) f (second (x.row.row == 5) kind))), tt))),
+                          ((λ s kind. grown_same May f _ (job_same _ _ f)), ((λ s kind. grown_same May f _ refl), ((λ s kind. grown_same May f _ (move_same x.row.row x.object (planned x.object f) f (not-true (x.row.row == 5) kind))), tt))),
                         ),
                       ),
                     ),
@@ -143,7 +144,3 @@ module _ (May : ℕ → Type 0) where
         first : (t : Bool) → not (t || false) ≡ true → t ≡ false
         first true e = absurd (cc)
         first false e = refl
-
-        second : (t : Bool) → not t ≡ true → t ≡ false
-        second true e = absurd (cc)
-        second false e = refl

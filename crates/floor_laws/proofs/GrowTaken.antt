@@ -1,8 +1,8 @@
 -- What becomes of the places of substrates where a carrier is taken away: each of its substrates is in a slot of the port, and has no place
 -- any more; each other stays.
-use Rattle.std.proofs.Common.{◌≡◌, ◌⊎◌, ℕ, suc, ◌==◌, Bool, true, false, not, ◌&&◌, ◌||◌, if◌then◌else◌, List, [], ◌∷◌, filter, Option, Some, None, option_map, slice_get, inl, inr, refl, sym, ◌∙◌, ap, subst, arith}
+use Rattle.std.proofs.Common.{◌≡◌, ◌⊎◌, ℕ, suc, ◌==◌, Bool, true, false, not, ◌&&◌, ◌||◌, if◌then◌else◌, List, [], ◌∷◌, Option, Some, None, option_map, slice_get, inl, inr, refl, sym, ◌∙◌, ap, subst, arith}
 use Rattle.std.specs.List.{AllByRecursion, list_any}
-use Rattle.std.proofs.lemmas.Bool.{and_parts, or_parts}
+use Rattle.std.proofs.lemmas.Bool.{and_parts, or_parts, not-false}
 use Rattle.std.proofs.lemmas.Bool.Decides.{Decides-eqb}
 use Rattle.gem_tables.specs.Table.{firing}
 use Rattle.gem_ids.specs.declared.numbers.PortNo.{PortNo}
@@ -16,14 +16,14 @@ use Rattle.shop_floor.specs.Valid.{IsFloor}
 use Rattle.shop_floor.specs.Machines as shop
 use Rattle.shop_floor.proofs.Apart.{found_only, found_passes, has_its_name, IsOnly}
 use Rattle.shop_floor.proofs.Scans.{numbered_at}
-use Rattle.substrate.specs.Places.{name_of, PlaceMap, has_name as has_sub, removed}
+use Rattle.substrate.specs.Places.{name_of, has_name as has_sub}
 use Rattle.substrate.specs.declared.registered.Registered.{Registered}
 use Rattle.records.proofs.Apart.{has_it}
 use Rattle.floor_model.specs.declared.tracked.Substrate.{Substrate}
 use Rattle.floor_model.specs.Floor.{ToolFloor, with_shop, substrate_numbered}
 use Rattle.floor_model.specs.Machines.{floor_fired}
-use Rattle.floor_model.specs.Substrates.{is_of, emptied, removed_of, without_carrier}
-use Rattle.floor_moves.specs.Floor.{Loc, slot, aligner, arm, chamber, own, is_outside}
+use Rattle.floor_model.specs.Substrates.{is_of, removed_of, without_carrier}
+use Rattle.floor_moves.specs.Floor.{Loc, slot, own, is_outside}
 use Rattle.floor_moves.specs.Carriers.{HasEnded}
 use Rattle.floor_moves.specs.Valid.{Valid}
 use Rattle.floor_moves.proofs.Promised.{one_place}
@@ -33,30 +33,12 @@ use Rattle.place_laws.specs.Standing.{IsCarried}
 use Rattle.place_laws.proofs.Holding.{found_number, true_of_found, own_place}
 use Rattle.place_laws.proofs.SlotNames.{slot_of_name}
 use Rattle.place_laws.proofs.Stays.{at_found}
-use Rattle.floor_laws.proofs.GrowFound.{numbered_in, passing, found_so, found_fewer}
+use Rattle.floor_laws.proofs.GrowFound.{passing, found_fewer}
 use Rattle.floor_laws.proofs.GrowPlaces.{Gone, Grown, grown_same}
+use Rattle.place_laws.proofs.Names.{numbered_in, each_found}
+use Rattle.floor_laws.proofs.RemPlaces.{stays, removed_held, removed_given}
 
 -- ---- lists of which some are left out
-
-filter_same : {A : Type 0} (q r : A → Bool) (xs : List A) → AllByRecursion (λ (x : A). q x ≡ r x) xs → filter q xs ≡ filter r xs
-filter_same q r [] same = refl
-filter_same q r (x ∷ xs) same = ap (λ (b : Bool). if b then x ∷ filter q xs else filter q xs) same.0 ∙ ap (λ (ys : List _). if r x then x ∷ ys else ys) (filter_same q r xs same.1)
-
--- of those left by one test, those left by another
-filter_twice : {A : Type 0} (q r both : A → Bool) (xs : List A) → ((x : A) → both x ≡ (r x && q x)) → filter q (filter r xs) ≡ filter both xs
-filter_twice q r both [] is = refl
-filter_twice q r both (x ∷ xs) is = of (r x) refl (filter_twice q r both xs is) where
-  of : (b : Bool) → r x ≡ b → filter q (filter r xs) ≡ filter both xs → filter q (if b then x ∷ filter r xs else filter r xs) ≡ (if both x then x ∷ filter both xs else filter both xs)
-  of true t rest =
-      let same : both x ≡ q x = is x ∙ ap (λ (b : Bool). b && q x) t in
-      ap (λ (ys : List _). if q x then x ∷ ys else ys) rest ∙ ap (λ (b : Bool). if b then x ∷ filter both xs else filter both xs) (sym same)
-  of false t rest =
-      let same : both x ≡ false = is x ∙ ap (λ (b : Bool). b && q x) t in
-      rest ∙ ap (λ (b : Bool). if b then x ∷ filter both xs else filter both xs) (sym same)
-
-filter_all : {A : Type 0} (q : A → Bool) (xs : List A) → ((x : A) → q x ≡ true) → filter q xs ≡ xs
-filter_all q [] is = refl
-filter_all q (x ∷ xs) is = ap (λ (b : Bool). if b then x ∷ filter q xs else filter q xs) (is x) ∙ ap (λ (ys : List _). x ∷ ys) (filter_all q xs is)
 
 -- one of these passes the test
 one_passes : (P : Substrate → Type 0) (test : Substrate → Bool) (ss : List Substrate) → AllByRecursion P ss → list_any test ss ≡ true → (s : Substrate) × (test s ≡ true) × P s
@@ -72,32 +54,6 @@ module _ (k : ℕ) where
   -- a substrate of the carrier has the name of what is registered
   abbrev pub named_of : Registered → Substrate → Bool
   named_of r s = is_of k s && has_sub s.sub r
-
-  -- none does
-  abbrev pub stays : List Substrate → Registered → Bool
-  stays ss r = not (list_any (named_of r) ss)
-
-  either : (a b : Bool) → not (a || b) ≡ (not a && not b)
-  either true b = refl
-  either false b = refl
-
-  -- what has a place behind the removal
-  pub removed_held : (ss : List Substrate) (p : PlaceMap) → (removed_of k ss p).held ≡ filter (stays ss) p.held
-  removed_held [] p = sym (filter_all (stays []) p.held (λ r. refl))
-  removed_held (s ∷ ss) p = removed_held ss (emptied k (Some s) p) ∙ of (is_of k s) refl where
-    of : (b : Bool) → is_of k s ≡ b → filter (stays ss) (if b then removed s.sub p else p).held ≡ filter (stays (s ∷ ss)) p.held
-    of true is = filter_twice (stays ss) (λ (r : Registered). not (has_sub s.sub r)) (stays (s ∷ ss)) p.held (λ r. ap (λ (b : Bool). not ((b && has_sub s.sub r) || list_any (named_of r) ss)) is ∙ either (has_sub s.sub r) _)
-    of false is = filter_same (stays ss) (stays (s ∷ ss)) p.held (each p.held) where
-      each : (rs : List Registered) → AllByRecursion (λ (r : Registered). stays ss r ≡ stays (s ∷ ss) r) rs
-      each [] = tt
-      each (r ∷ rs) = (ap (λ (b : Bool). not ((b && has_sub s.sub r) || list_any (named_of r) ss)) (sym is), each rs)
-
-  pub removed_given : (ss : List Substrate) (p : PlaceMap) → (removed_of k ss p).given ≡ p.given
-  removed_given [] p = refl
-  removed_given (s ∷ ss) p = removed_given ss (emptied k (Some s) p) ∙ of (is_of k s) where
-    of : (b : Bool) → (if b then removed s.sub p else p).given ≡ p.given
-    of true = refl
-    of false = refl
 
 -- two substrates of one name are of one carrier
 pub one_carrier : (cs : List Carrier) → are_named_apart cs ≡ true → (s t : Substrate) → IsCarried cs s → IsCarried cs t → s.sub ≡ t.sub → s.carrier ≡ t.carrier
@@ -156,12 +112,7 @@ option_number o = option_map number_of o
 -- a place that is not outside is a slot
 slot_of : (l : Loc) → is_outside (Some l) ≡ false → (p : ℕ) × (k : ℕ) × (l ≡ slot p k)
 slot_of (slot p k) e = (p, k, refl)
-slot_of aligner e = absurd (cc)
-slot_of arm e = absurd (cc)
-slot_of (chamber c) e = absurd (cc)
-
-same_port : (p q k m : ℕ) → slot p k ≡ slot q m → p ≡ q
-same_port p q k m e = cc
+slot_of _ e = absurd (cc)
 
 module _ (May : ℕ → Type 0) (f : ToolFloor) (b : Base f) (v : Valid (picture f)) (port : ℕ) (may : May port) (here : IsHere port f.shop) (ends : EndsAt port f) where
   -- its substrates are in slots of this port
@@ -174,7 +125,7 @@ module _ (May : ℕ → Type 0) (f : ToolFloor) (b : Base f) (v : Valid (picture
       -- it is kept, and is of the carrier
       its_own : (s : Substrate) × (substrate_numbered n f.substrates ≡ Some s) × IsCarried f.shop.carriers s × (s.carrier ≡ c.number)
       its_own =
-          let kept = found_so (IsOfKept f.substrates) (λ (x : Registered). x.number == n) f.places.held r b.held there in
+          let kept = each_found (IsOfKept f.substrates) (λ (x : Registered). x.number == n) f.places.held r b.held there in
           let number : r.number ≡ n = found_number (λ (x : Registered). x.number) n f.places.held r there in
           let known : substrate_numbered n f.substrates ≡ Some kept.0 = ap (λ (k : ℕ). substrate_numbered k f.substrates) (sym number) ∙ kept.1 in
           let carried = true_of_found (λ (x : Substrate). x.number) n (IsCarried f.shop.carriers) f.substrates kept.0 b.carried known in
@@ -217,17 +168,13 @@ module _ (May : ℕ → Type 0) (f : ToolFloor) (b : Base f) (v : Valid (picture
       behind : (n : ℕ) → numbered_in n (removed_of c.number f.substrates f.places).held ≡ passing (stays c.number f.substrates) (numbered_in n f.places.held)
       behind n = ap (numbered_in n) (removed_held c.number f.substrates f.places) ∙ found_fewer (stays c.number f.substrates) n 0 f.places.given f.places.held b.places.numbered
 
-      back : (t : Bool) → not t ≡ false → t ≡ true
-      back true e = refl
-      back false e = absurd (cc)
-
       of : (n : ℕ) (o : Option Registered) → numbered_in n f.places.held ≡ o → (place_in (removed_of c.number f.substrates f.places) n ≡ place_in f.places n) ⊎ Gone May f (with_shop s (without_carrier (Some c.number) f)) n
       of n None is = inl (ap loc_there (behind n ∙ ap (passing (stays c.number f.substrates)) is) ∙ sym (ap loc_there is))
       of n (Some r) is = by (stays c.number f.substrates r) refl where
         by : (t : Bool) → stays c.number f.substrates r ≡ t → (place_in (removed_of c.number f.substrates f.places) n ≡ place_in f.places n) ⊎ Gone May f (with_shop s (without_carrier (Some c.number) f)) n
         by true e = inl (ap loc_there (behind n ∙ ap (passing (stays c.number f.substrates)) is ∙ ap (λ (t : Bool). if t then Some r else None) e) ∙ sym (ap loc_there is))
         by false e =
-            let there = in_port n r is (back _ e) in
+            let there = in_port n r is (not-false _ e) in
             inr (record {
               port = port;
               slot_there = there.0;

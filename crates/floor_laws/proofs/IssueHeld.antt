@@ -1,24 +1,18 @@
 -- Each place that is held is found by its number and by its name, and is that of a substrate that is kept.
-use Rattle.std.proofs.Common.{◌≡◌, ◌<◌, ℕ, ◌==◌, Bool, true, false, ◌||◌, if◌then◌else◌, List, [], ◌∷◌, find, Some, None, refl, sym, ◌∙◌, ap, subst, arith}
+use Rattle.std.proofs.Common.{◌≡◌, ◌<◌, ℕ, ◌==◌, Bool, true, false, ◌||◌, if◌then◌else◌, List, [], ◌∷◌, find, Some, None, refl, sym, ◌∙◌, ap, subst}
 use Rattle.std.specs.List.{AllByRecursion, list_any}
-use Rattle.std.proofs.lemmas.Bool.Decides.{Decides-eqb}
-use Rattle.substrate.specs.Places.{name_of, has_name, substrate_named, are_named_apart, AreNumbered}
+use Rattle.substrate.specs.Places.{name_of, substrate_named}
 use Rattle.substrate.specs.declared.registered.Registered.{Registered}
-use Rattle.records.proofs.Texts.{same_name, own_name}
-use Rattle.records.proofs.Places.{unknown_none}
-use Rattle.records.proofs.Apart.{first_apart, rest_apart}
+use Rattle.records.proofs.Apart.{found_named}
 use Rattle.floor_model.specs.declared.tracked.Substrate.{Substrate}
 use Rattle.floor_model.specs.Floor.{ToolFloor, substrate_numbered}
 use Rattle.place_laws.specs.Sound.{IsOfKept, Base}
+use Rattle.std.proofs.lemmas.Bool.{or_right}
+use Rattle.place_laws.proofs.Names.{numbered_in, each_numbered}
 
 -- ---- lists
 
 module _ {A : Type 0} where
-  -- what follows from what is so of each is so of each
-  pub all_so : (P Q : A → Type 0) (xs : List A) → ((x : A) → P x → Q x) → AllByRecursion P xs → AllByRecursion Q xs
-  all_so P Q [] so all = tt
-  all_so P Q (x ∷ xs) so all = (so x all.0, all_so P Q xs so all.1)
-
   -- so is what follows from two things
   pub all_both : (P Q R : A → Type 0) (xs : List A) → ((x : A) → P x → Q x → R x) → AllByRecursion P xs → AllByRecursion Q xs → AllByRecursion R xs
   all_both P Q R [] so ps qs = tt
@@ -36,13 +30,9 @@ module _ {A : Type 0} where
   pub found_any : (find_by test : A → Bool) (xs : List A) (x : A) → find find_by xs ≡ Some x → test x ≡ true → list_any test xs ≡ true
   found_any find_by test [] x e passes = absurd (cc)
   found_any find_by test (y ∷ ys) x e passes = of (find_by y) e (found_any find_by test ys x) where
-    second : (a b : Bool) → b ≡ true → (a || b) ≡ true
-    second true b e = refl
-    second false b e = e
-
     of : (b : Bool) → (if b then Some y else find find_by ys) ≡ Some x → (find find_by ys ≡ Some x → test x ≡ true → list_any test ys ≡ true) → (test y || list_any test ys) ≡ true
     of true e rest = let same : x ≡ y = cc in ap (λ (b : Bool). b || list_any test ys) (ap test (sym same) ∙ passes)
-    of false e rest = second (test y) (list_any test ys) (rest e passes)
+    of false e rest = or_right (test y) (list_any test ys) (rest e passes)
 
   -- where none is found, none passes
   pub none_any : (test : A → Bool) (xs : List A) → find test xs ≡ None → list_any test xs ≡ false
@@ -51,48 +41,6 @@ module _ {A : Type 0} where
     of : (b : Bool) → (if b then Some x else find test xs) ≡ None → (find test xs ≡ None → list_any test xs ≡ false) → (b || list_any test xs) ≡ false
     of true e rest = absurd (cc)
     of false e rest = rest e
-
--- ---- numbers
-
--- those behind a number have greater ones
-above : (last given : ℕ) (rs : List Registered) → AreNumbered last given rs → AllByRecursion (λ (r : Registered). last < r.number) rs
-above last given [] rising = tt
-above last given (r ∷ rs) rising =
-    let more = rising.0 in
-    (more, all_so (λ (x : Registered). r.number < x.number) (λ (x : Registered). last < x.number) rs (λ x less. omega (arith, more, less)) (above r.number given rs rising.1))
-
-abbrev IsNumbered : List Registered → Registered → Type 0
-IsNumbered rs r = find (λ (x : Registered). x.number == r.number) rs ≡ Some r
-
--- each is found by its number
-numbers_found : (last given : ℕ) (rs : List Registered) → AreNumbered last given rs → AllByRecursion (IsNumbered rs) rs
-numbers_found last given [] rising = tt
-numbers_found last given (r ∷ rs) rising = (
-  rw ((Decides-eqb r.number r.number).1 refl) refl,
-  all_both (λ (x : Registered). r.number < x.number) (IsNumbered rs) (IsNumbered (r ∷ rs)) rs (λ x less found. later x less found (r.number == x.number) refl) (above r.number given rs rising.1) (numbers_found r.number given rs rising.1),
-) where
-  later : (x : Registered) → r.number < x.number → IsNumbered rs x → (b : Bool) → (r.number == x.number) ≡ b → IsNumbered (r ∷ rs) x
-  later x less found true q = let same = (Decides-eqb r.number x.number).0 q in absurd (omega (arith, less, same))
-  later x less found false q = rw q found
-
--- ---- names
-
-abbrev IsNamed : List Registered → Registered → Type 0
-IsNamed rs r = substrate_named r.sub rs ≡ Some r
-
--- each is found by its name
-names_found : (rs : List Registered) → are_named_apart rs ≡ true → AllByRecursion (IsNamed rs) rs
-names_found [] apart = tt
-names_found (r ∷ rs) apart = (
-  rw (own_name r.sub) refl,
-  all_so (IsNamed rs) (IsNamed (r ∷ rs)) rs (λ x found. later x found (has_name x.sub r) refl) (names_found rs (rest_apart name_of r rs apart)),
-) where
-  later : (x : Registered) → IsNamed rs x → (b : Bool) → has_name x.sub r ≡ b → IsNamed (r ∷ rs) x
-  later x found true q =
-      let same : r.sub ≡ x.sub = same_name r.sub x.sub q in
-      let gone : substrate_named x.sub rs ≡ None = subst (λ (name : List ℕ). substrate_named name rs ≡ None) same (unknown_none (has_name r.sub) rs (first_apart name_of r rs apart)) in
-      absurd (cc)
-  later x found false q = rw q found
 
 -- ---- all of it
 
@@ -107,8 +55,7 @@ HasKept f r = (s : Substrate) × IsHeld f r s
 
 pub all_held : (f : ToolFloor) → Base f → AllByRecursion (HasKept f) f.places.held
 all_held f b =
-    all_both (λ (r : Registered). IsNumbered f.places.held r × IsNamed f.places.held r) (IsOfKept f.substrates) (HasKept f) f.places.held
-    (λ r its kept. (kept.0, record { numbered = its.0; named = its.1; found = kept.1 }))
-    (all_both (IsNumbered f.places.held) (IsNamed f.places.held) (λ (r : Registered). IsNumbered f.places.held r × IsNamed f.places.held r) f.places.held (λ r n m. (n, m))
-    (numbers_found 0 f.places.given f.places.held b.places.numbered) (names_found f.places.held b.places.named_apart))
+    all_both (λ (r : Registered). (0 < r.number) × (numbered_in r.number f.places.held ≡ Some r)) (IsOfKept f.substrates) (HasKept f) f.places.held
+    (λ r its kept. (kept.0, record { numbered = its.1; named = found_named name_of (λ (x : Registered). x.number == r.number) f.places.held r b.places.named_apart its.1; found = kept.1 }))
+    (each_numbered 0 f.places.given f.places.held b.places.numbered)
     b.held

@@ -90,9 +90,7 @@ module _ (f : ToolFloor) (b : Base f) (v : Valid (picture f)) (rests : is_idle (
   } where
     slot_of : (x : LocId) → Leaves f.modules w x → (p k : ℕ) → loc_of x ≡ slot p k → is_finished ((picture f).processing n) ≡ false
     slot_of (Slot p k) l i j is = s.finished ∙ (l.from_slot p k refl).0
-    slot_of Aligner l i j is = absurd (cc)
-    slot_of Arm l i j is = absurd (cc)
-    slot_of (Chamber c) l i j is = absurd (cc)
+    slot_of _ l i j is = absurd (cc)
 
     aligner_of : (x : LocId) → Leaves f.modules w x → loc_of x ≡ aligner → (is_finished ((picture f).processing n) || (picture f).is_aligned n) ≡ true
     aligner_of (Slot p k) l is = absurd (cc)
@@ -102,10 +100,8 @@ module _ (f : ToolFloor) (b : Base f) (v : Valid (picture f)) (rests : is_idle (
     aligner_of (Chamber c) l is = absurd (cc)
 
     chamber_of : (x : LocId) → Leaves f.modules w x → (c : ℕ) → loc_of x ≡ chamber c → is_finished ((picture f).processing n) ≡ true
-    chamber_of (Slot p k) l d is = absurd (cc)
-    chamber_of Aligner l d is = absurd (cc)
-    chamber_of Arm l d is = absurd (cc)
     chamber_of (Chamber c) l d is = s.finished ∙ (l.from_chamber c refl).1
+    chamber_of _ l d is = absurd (cc)
 
     arm_of : (x : LocId) → Leaves f.modules w x → loc_of x ≡ arm → ⊥
     arm_of (Slot p k) l is = cc

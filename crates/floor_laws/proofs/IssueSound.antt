@@ -1,6 +1,6 @@
 -- Rows 1 to 4 of table 16, by which a command is issued, keep what holds of the floor of the tool.
-use Rattle.std.proofs.Common.{◌≡◌, ◌≤◌, ℕ, zero, suc, ◌+◌, true, List, [], ◌∷◌, length, Option, Some, None, refl, sym, ap, subst}
-use Rattle.gem_tables.specs.Table.{firing, is_one_of, update_at}
+use Rattle.std.proofs.Common.{◌≡◌, ◌≤◌, ℕ, zero, suc, ◌+◌, true, List, [], ◌∷◌, length, Option, Some, None, refl, sym, subst}
+use Rattle.gem_tables.specs.Table.{firing, is_one_of}
 use Rattle.robot_moves.specs.declared.module.Module.{Module}
 use Rattle.robot_moves.specs.Modules.{module_at, change_module, given}
 use Rattle.robot_moves.specs.declared.view.Move.{Move}
@@ -16,17 +16,13 @@ use Rattle.place_laws.specs.Sound.{Sound}
 use Rattle.floor_moves.proofs.Issuing.{issued-keeps}
 use Rattle.picture_laws.proofs.Issuing.{issuing_agrees}
 use Rattle.floor_laws.proofs.IssuePlans.{planned_may}
+use Rattle.records.proofs.Apart.{length_update}
 
 -- ---- the modules are as many as before
 
-updated_many : (n : ℕ) (change : Module → Module) (ms : List Module) → length (update_at n change ms) ≡ length ms
-updated_many n change [] = refl
-updated_many zero change (m ∷ ms) = refl
-updated_many (suc n) change (m ∷ ms) = ap suc (updated_many n change ms)
-
 pub changed_many : (m : ℕ) (change : Module → Module) (ms : List Module) → length (change_module m change ms) ≡ length ms
 changed_many zero change ms = refl
-changed_many (suc n) change ms = updated_many n change ms
+changed_many (suc n) change ms = length_update change n ms
 
 -- ---- the row
 

@@ -1,10 +1,9 @@
 -- What the planner is told of a substrate is what the floor by numbers says of it.
 use Rattle.std.proofs.Common.{◌≡◌, ◌≤◌, ℕ, zero, suc, ◌+◌, ◌==◌, Bool, true, false, ◌||◌, ◌&&◌, not, if◌then◌else◌, List, [], ◌∷◌, ◌++◌, find, Option, Some, None, option_map, slice_get, refl, sym, ◌∙◌, ap, subst, arith}
 use Rattle.std.specs.List.{AllByRecursion, list_any}
-use Rattle.std.proofs.lemmas.Bool.Decides.{Decides-eqb}
 use Rattle.gem_tables.specs.Table.{is_one_of}
 use Rattle.gem_ids.specs.declared.numbers.LocId.{LocId}
-use Rattle.gem_ids.specs.declared.numbers.LocId.TheVariants.{Slot, Aligner, Arm, Chamber}
+use Rattle.gem_ids.specs.declared.numbers.LocId.TheVariants.{Slot}
 use Rattle.gem_ids.specs.declared.numbers.PortNo.{PortNo}
 use Rattle.gem_ids.specs.declared.numbers.SlotNo.{SlotNo}
 use Rattle.robot_moves.specs.Moves.{holder, is_empty, has_chamber}
@@ -32,33 +31,9 @@ use Rattle.place_laws.specs.Picture.{picture, loc_of, numbered, chambers_in, of_
 use Rattle.place_laws.specs.Sound.{Base}
 use Rattle.place_laws.proofs.Holding.{found_among, kept_there, own_place, IsThere}
 use Rattle.floor_laws.proofs.IssueHeld.{found_so, found_any, none_any, IsHeld, HasKept, all_held}
+use Rattle.place_laws.proofs.Names.{same_loc}
 
 -- ---- places
-
-number_same : (n : ℕ) → (n == n) ≡ true
-number_same n = (Decides-eqb n n).1 refl
-
--- names of places are of the same place where the places are the same
-pub same_loc : (l m : LocId) → loc_of l ≡ loc_of m → is_same l m ≡ true
-same_loc (Slot p k) (Slot q j) e =
-    let port : p.0 ≡ q.0 = cc in
-    let number : k.0 ≡ j.0 = cc in
-    ap (λ (b : Bool). b && (k.0 == j.0)) ((Decides-eqb p.0 q.0).1 port) ∙ (Decides-eqb k.0 j.0).1 number
-same_loc Aligner Aligner e = refl
-same_loc Arm Arm e = refl
-same_loc (Chamber c) (Chamber d) e = let number : c ≡ d = cc in (Decides-eqb c d).1 number
-same_loc (Slot p k) Aligner e = absurd (cc)
-same_loc (Slot p k) Arm e = absurd (cc)
-same_loc (Slot p k) (Chamber d) e = absurd (cc)
-same_loc Aligner (Slot q j) e = absurd (cc)
-same_loc Aligner Arm e = absurd (cc)
-same_loc Aligner (Chamber d) e = absurd (cc)
-same_loc Arm (Slot q j) e = absurd (cc)
-same_loc Arm Aligner e = absurd (cc)
-same_loc Arm (Chamber d) e = absurd (cc)
-same_loc (Chamber c) (Slot q j) e = absurd (cc)
-same_loc (Chamber c) Aligner e = absurd (cc)
-same_loc (Chamber c) Arm e = absurd (cc)
 
 -- ---- states of processing
 

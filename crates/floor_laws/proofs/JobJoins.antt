@@ -27,13 +27,14 @@ use Rattle.place_laws.specs.Picture.{picture, of_one, is_complete}
 use Rattle.place_laws.specs.Standing.{IsCarried}
 use Rattle.place_laws.specs.Sound.{is_queued, IsOfJob, IsInItsJob, JobsSound, Sound}
 use Rattle.place_laws.proofs.Holding.{true_of_found}
-use Rattle.floor_laws.proofs.JobSight.{none_some, some_same, each_found}
+use Rattle.floor_laws.proofs.JobSight.{none_some, some_same}
 use Rattle.floor_laws.proofs.JobChanges.{IsJobAlone}
 use Rattle.floor_laws.proofs.JobSays.{behind, GoesOn, sound_on}
 use Rattle.floor_laws.proofs.JobLists.{job_number_is, numbered_fired, fired_there, fired_was, fired_on, none_first}
 use Rattle.floor_laws.proofs.JobStates.{after_set_up}
 use Rattle.floor_laws.proofs.JobFires.{here_before, over_before, fired_jobs, fired_member}
 use Rattle.floor_laws.proofs.JobEnds.{each_mapped}
+use Rattle.place_laws.proofs.Names.{each_found}
 
 -- ---- lists
 
@@ -61,7 +62,7 @@ not_below name k first next (c ∷ cs) rising e = of (c.number == k) (bytes_eq c
   of false d q e rest = let more = rest e in let less = rising.0 in omega (arith, more, less)
 
 -- the carrier of the number has the name
-name_there : (name : List ℕ) (k first next : ℕ) (cs : List Carrier) (x : Carrier) → RiseFrom first next cs → list_any (is_carrier_of name k) cs ≡ true → carrier_numbered k cs ≡ Some x → x.name ≡ name
+pub name_there : (name : List ℕ) (k first next : ℕ) (cs : List Carrier) (x : Carrier) → RiseFrom first next cs → list_any (is_carrier_of name k) cs ≡ true → carrier_numbered k cs ≡ Some x → x.name ≡ name
 name_there name k first next [] x rising e found = none_some x found
 name_there name k first next (c ∷ cs) x rising e found = of (c.number == k) (bytes_eq c.name name) refl refl e found (name_there name k (c.number + 1) next cs x rising.1) where
   of : (b d : Bool) → (c.number == k) ≡ b → bytes_eq c.name name ≡ d → ((b && d) || list_any (is_carrier_of name k) cs) ≡ true → (if b then Some c else carrier_numbered k cs) ≡ Some x → (list_any (is_carrier_of name k) cs ≡ true → carrier_numbered k cs ≡ Some x → x.name ≡ name) → x.name ≡ name
@@ -75,11 +76,10 @@ name_there name k first next (c ∷ cs) x rising e found = of (c.number == k) (b
 -- ---- the members
 
 -- a carrier that is here is NOT ACCESSED or IN ACCESS
-use_number : (a : Accessing) → is_in_use a ≡ true → access_number a ≤ 1
+pub use_number : (a : Accessing) → is_in_use a ≡ true → access_number a ≤ 1
 use_number accessing.NotAccessed e = omega arith
 use_number accessing.InAccess e = omega arith
-use_number accessing.Complete e = absurd (true≢false (sym e))
-use_number accessing.Stopped e = absurd (true≢false (sym e))
+use_number _ e = absurd (true≢false (sym e))
 
 -- a substrate that joins the job: it was in none, and its carrier, which the job names, is NOT ACCESSED or IN ACCESS
 record IsNew (f : ToolFloor) (j : ProcessJob) (s : Substrate) : Type 0 where

@@ -4,7 +4,6 @@ use Rattle.std.specs.List.{list_any}
 use Rattle.std.proofs.lemmas.Bool.{true≢false}
 use Rattle.std.proofs.lemmas.Bool.Decides.{Decides-eqb}
 use Rattle.std.proofs.lemmas.Slice.Eq.{bytes_eq-Decides}
-use Rattle.tool_tasks.specs.declared.task.Task.{Task as ToolTask}
 use Rattle.tool_tasks.specs.declared.task.Task.TheVariants as task
 use Rattle.robot_moves.specs.declared.module.Module.{Module as ToolModule}
 use Rattle.robot_moves.specs.declared.module.Module.TheVariants.{Idle, Busy, Down}
@@ -21,6 +20,7 @@ use Rattle.place_laws.specs.Picture.{picture, numbered, number_or_none, task_of,
 use Rattle.place_laws.specs.Sound.{Base}
 use Rattle.place_laws.proofs.Holding.{none_before}
 use Rattle.floor_laws.proofs.JobSight.{any_there, found_alike}
+use Rattle.floor_laws.proofs.RegNames.{task_names}
 
 module _ (f : ToolFloor) (b : Base f) (n : ℕ) (s : Substrate) (found : substrate_numbered n f.substrates ≡ Some s) where
   -- its name has its number, where it has a place
@@ -28,13 +28,6 @@ module _ (f : ToolFloor) (b : Base f) (n : ℕ) (s : Substrate) (found : substra
   number_of_name r e =
       ap (λ (o : Option Registered). number_or_none (option_map (λ (r : Registered). r.number) o)) e
       ∙ (Decides-eqb r.number n).0 (found_passes (λ (r : Registered). r.number == n) f.places.held r (found_alike f b n s found ∙ e))
-
-  -- the name of a task
-  task_name : (t : ToolTask) → named (task_of t f.places) ≡ numbered (named_by t) f.places
-  task_name (task.Pick sub from) = refl
-  task_name (task.Place sub to) = refl
-  task_name (task.Align sub) = refl
-  task_name (task.Process sub recipe) = refl
 
   -- the number of its name is its number where an open command has it
   number_of_command : Members (picture f) → (m : ℕ) (c : Command) → (picture f).equipment m ≡ busy c → named c.task ≡ numbered s.sub f.places → numbered s.sub f.places ≡ n
@@ -55,6 +48,6 @@ module _ (f : ToolFloor) (b : Base f) (n : ℕ) (s : Substrate) (found : substra
     of m (Busy command fetched) q t =
         let c : Command = record { number = command.number.0; task = task_of command.task f.places } in
         let is : (picture f).equipment m ≡ busy c = ap (λ (o : Option ToolModule). module_of o f.places) q in
-        let its : named c.task ≡ numbered s.sub f.places = task_name command.task ∙ ap (λ (sub : List ℕ). numbered sub f.places) ((bytes_eq-Decides (named_by command.task) s.sub).0 t) in
+        let its : named c.task ≡ numbered s.sub f.places = task_names command.task f.places ∙ ap (λ (sub : List ℕ). numbered sub f.places) ((bytes_eq-Decides (named_by command.task) s.sub).0 t) in
         (m, c, is, its ∙ number_of_command v m c is its)
     of m Down q t = absurd (true≢false (sym t))

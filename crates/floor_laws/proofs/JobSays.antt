@@ -16,7 +16,7 @@ use Rattle.floor_model.specs.Floor.{ToolFloor, substrate_numbered, number_of}
 use Rattle.floor_model.specs.Jobs.{all_marked, job_of, names_carrier, is_any_of_carrier, is_processing}
 use Rattle.floor_model.proofs.Marks.{marked_valid}
 use Rattle.floor_moves.specs.Floor as law
-use Rattle.floor_moves.specs.Floor.{arm, Task, pick, place, align, process, named, Command, busy, JobView, is_done}
+use Rattle.floor_moves.specs.Floor.{Task, pick, place, align, process, named, Command, busy, JobView, is_done}
 use Rattle.floor_moves.specs.Agree.{Agree}
 use Rattle.floor_moves.specs.Carriers.{with_jobs}
 use Rattle.floor_moves.specs.Valid.{Members, Valid, MaySay}
@@ -25,7 +25,7 @@ use Rattle.floor_moves.proofs.Carrying.{jobs_say-keeps}
 use Rattle.floor_moves.proofs.Facts.{outside_not_done, picked_not_done}
 use Rattle.place_laws.specs.Picture.{picture, of_one, of_job, is_complete, chambers_in, job_view, port_in, slot_in, where_present}
 use Rattle.place_laws.specs.Sound.{IsOfJob, IsInItsJob, JobsSound, Base, Sound}
-use Rattle.place_laws.proofs.Holding.{found_among, true_of_found}
+use Rattle.place_laws.proofs.Holding.{found_among, true_of_found, IsOne}
 use Rattle.place_laws.proofs.Leaving.{Leaves}
 use Rattle.place_laws.proofs.Stays.{stay-carried}
 use Rattle.picture_laws.proofs.Columns.{unknown_none}
@@ -67,10 +67,6 @@ any_found t u (y ∷ ys) x e is = of (t y) e (any_found t u ys x) where
   of : (b : Bool) → (if b then Some y else find t ys) ≡ Some x → (find t ys ≡ Some x → u x ≡ true → list_any u ys ≡ true) → (u y || list_any u ys) ≡ true
   of true e rest = or_left (u y) (list_any u ys) (ap u (some_same y x e) ∙ is)
   of false e rest = or_right (u y) (list_any u ys) (rest e is)
-
--- a number is 1
-abbrev IsOne : ℕ → Type 0
-IsOne k = k ≡ 1
 
 module _ (f : ToolFloor) (ms : List Material) (change : Substrate → Substrate) (alone : IsJobAlone change) (w : Jobs) where
   -- the floor behind the change

@@ -1,19 +1,15 @@
 -- What is said of a substrate by its name is said of it by its number.
 use Rattle.std.proofs.Common.{◌≡◌, ℕ, zero, suc, ◌==◌, Bool, true, false, not, ◌||◌, if◌then◌else◌, List, [], ◌∷◌, find, map, Option, Some, None, option_map, is_some, refl, sym, ◌∙◌, ap, subst}
 use Rattle.std.specs.List.{AllByRecursion, list_any}
-use Rattle.std.proofs.lemmas.Bool.{true≢false, and_parts}
+use Rattle.std.proofs.lemmas.Bool.{true≢false}
 use Rattle.std.proofs.lemmas.Bool.Decides.{Decides-eqb}
 use Rattle.std.proofs.lemmas.Slice.Eq.{bytes_eq-Decides}
 use Rattle.gem_tables.specs.Table.{is_one_of}
 use Rattle.gem_ids.specs.declared.numbers.LocId.{LocId}
 use Rattle.gem_ids.specs.declared.numbers.LocId.TheVariants.{Slot, Aligner, Arm, Chamber}
-use Rattle.gem_ids.specs.declared.numbers.PortNo.{PortNo}
-use Rattle.gem_ids.specs.declared.numbers.SlotNo.{SlotNo}
 use Rattle.robot_moves.specs.declared.module.Module.{Module as ToolModule}
 use Rattle.robot_moves.specs.Modules.{module_at}
-use Rattle.carrier.specs.declared.carrier.Carrier.{Carrier}
-use Rattle.carrier.specs.Carriers.{carrier_numbered}
-use Rattle.shop_floor.proofs.Apart.{all_follows, IsOnly, found_only, has_its_name}
+use Rattle.shop_floor.proofs.Apart.{all_follows}
 use Rattle.substrate.specs.Locations.{is_same, is_work_place}
 use Rattle.substrate.specs.Places.{has_name, substrate_named, is_there}
 use Rattle.substrate.specs.declared.registered.Registered.{Registered}
@@ -21,12 +17,14 @@ use Rattle.floor_model.specs.declared.tracked.Substrate.{Substrate}
 use Rattle.floor_model.specs.Floor.{ToolFloor, substrate_numbered, number_of}
 use Rattle.floor_model.specs.Substrates.{is_at_work, is_outside, is_in_slot, is_removed}
 use Rattle.floor_moves.specs.Floor as law
-use Rattle.floor_moves.specs.Floor.{Loc, slot, Command, busy, idle, down, named, own}
+use Rattle.floor_moves.specs.Floor.{Loc, slot, own}
 use Rattle.place_laws.specs.Picture.{picture, loc_of}
 use Rattle.place_laws.specs.Standing.{IsCarried}
 use Rattle.place_laws.specs.Sound.{IsOfKept, Base}
-use Rattle.place_laws.proofs.Holding.{found_number, found_among, true_of_found, one_of_slot, own_place}
-use Rattle.place_laws.proofs.SlotNames.{slot_of_name}
+use Rattle.place_laws.proofs.Holding.{found_number, found_among, true_of_found, own_place}
+use Rattle.place_laws.proofs.Names.{one_of_name, same_loc}
+use Rattle.substrate.proofs.Sites.{same_is}
+use Rattle.std.proofs.Math.Bool.{or-false}
 
 -- ---- lists
 
@@ -42,14 +40,6 @@ none_some x e = absurd (cc)
 pub find_alike : {A : Type 0} (t u : A → Bool) (xs : List A) → AllByRecursion (λ x. t x ≡ u x) xs → find t xs ≡ find u xs
 find_alike t u [] all = refl
 find_alike t u (x ∷ xs) all = ap (λ b. if b then Some x else find t xs) all.0 ∙ ap (λ o. if u x then Some x else o) (find_alike t u xs all.1)
-
--- what is true of each is true of one that is found
-pub each_found : {A : Type 0} (P : A → Type 0) (t : A → Bool) (xs : List A) (x : A) → AllByRecursion P xs → find t xs ≡ Some x → P x
-each_found P t [] x all e = none_some x e
-each_found P t (y ∷ ys) x all e = of (t y) e (each_found P t ys x all.1) where
-  of : (b : Bool) → (if b then Some y else find t ys) ≡ Some x → (find t ys ≡ Some x → P x) → P x
-  of true e rest = subst P (some_same y x e) all.0
-  of false e rest = rest e
 
 -- a module that passes a test is at a number
 module _ (t : ToolModule → Bool) where
@@ -76,39 +66,6 @@ module _ (t : ToolModule → Bool) where
     of true is e rest = (1, y, refl, is)
     of false is e rest = let r = rest e in later r.0 r.1 r.2 r.3
 
--- ---- a name is that of one substrate
-
-module _ (f : ToolFloor) (b : Base f) where
-  -- carriers of one name are one
-  pub one_carrier : (n m : ℕ) (c d : Carrier) → carrier_numbered n f.shop.carriers ≡ Some c → carrier_numbered m f.shop.carriers ≡ Some d → c.name ≡ d.name → c ≡ d
-  one_carrier n m c d e g same =
-      each_found (IsOnly d) (λ (x : Carrier). x.number == n) f.shop.carriers c
-      (found_only (λ (x : Carrier). x.number == m) f.shop.carriers d b.shop.apart g) e (has_its_name d.name c same)
-
-  -- two that are kept under one name are one
-  pub named_once : (s t : Substrate) (n m : ℕ) → substrate_numbered n f.substrates ≡ Some s → substrate_numbered m f.substrates ≡ Some t → s.sub ≡ t.sub → s ≡ t
-  named_once s t n m e g same = one_of_slot n m f.substrates s t b.apart e g slots where
-    one : IsCarried f.shop.carriers s
-    one = true_of_found number_of n (IsCarried f.shop.carriers) f.substrates s b.carried e
-
-    two : IsCarried f.shop.carriers t
-    two = true_of_found number_of m (IsCarried f.shop.carriers) f.substrates t b.carried g
-
-    names : (one.0.name ≡ two.0.name) × (one.2.slot.0 ≡ two.2.slot.0)
-    names = slot_of_name one.0.name two.0.name one.2.slot.0 two.2.slot.0 (sym one.2.named ∙ same ∙ two.2.named)
-
-    carriers : one.0 ≡ two.0
-    carriers = one_carrier s.carrier t.carrier one.0 two.0 one.1 two.1 names.0
-
-    ports : one.2.port ≡ two.2.port
-    ports = some_same one.2.port two.2.port (sym one.2.at ∙ ap (λ (c : Carrier). c.port) carriers ∙ two.2.at)
-
-    numbers : one.2.slot ≡ two.2.slot
-    numbers = ap (λ (n : ℕ). record { 0 = n }) names.1
-
-    slots : s.slot ≡ t.slot
-    slots = one.2.own ∙ ap (λ (p : PortNo). Slot p one.2.slot) ports ∙ ap (λ (k : SlotNo). Slot two.2.port k) numbers ∙ sym two.2.own
-
 -- ---- the substrate of a number
 
 module _ (f : ToolFloor) (b : Base f) (n : ℕ) (s : Substrate) (found : substrate_numbered n f.substrates ≡ Some s) where
@@ -128,7 +85,7 @@ module _ (f : ToolFloor) (b : Base f) (n : ℕ) (s : Substrate) (found : substra
     by false p false q = refl
     by false p true q =
         let name : r.sub ≡ s.sub = (bytes_eq-Decides r.sub s.sub).0 q in
-        let one : k.0 ≡ s = named_once f b k.0 s r.number n k.1 found (k.2 ∙ name) in
+        let one : k.0 ≡ s = one_of_name f b k.0 s r.number n k.1 found (k.2 ∙ name) in
         let number : r.number ≡ n = sym (found_number number_of r.number f.substrates k.0 k.1) ∙ ap number_of one ∙ number_is in
         absurd (true≢false (sym ((Decides-eqb r.number n).1 number) ∙ p))
     by true p false q =
@@ -159,13 +116,6 @@ module _ (f : ToolFloor) (b : Base f) (n : ℕ) (s : Substrate) (found : substra
     of None = refl
     of (Some r) = at_place r.at
 
-  -- it is removed
-  pub removed_tells : is_removed s f.places ≡ true → (picture f).place_of n ≡ None
-  removed_tells e = place_is ∙ of (substrate_named s.sub f.places.held) refl where
-    of : (o : Option Registered) → substrate_named s.sub f.places.held ≡ o → option_map (λ (r : Registered). loc_of r.at) o ≡ None
-    of None q = refl
-    of (Some r) q = absurd (true≢false (sym e ∙ ap (λ (o : Option Registered). not (is_some o)) q))
-
   -- and one without a place is removed
   pub removed_from : (picture f).place_of n ≡ None → is_removed s f.places ≡ true
   removed_from e = of (substrate_named s.sub f.places.held) refl where
@@ -181,64 +131,18 @@ module _ (f : ToolFloor) (b : Base f) (n : ℕ) (s : Substrate) (found : substra
   pub own_is : own n (picture f) ≡ loc_of s.slot
   own_is = own_place f n (record { one = s; found = found; its = its_own.0; known = its_own.1; of = its_own.2 })
 
-  -- it is in its slot
-  pub in_slot_tells : is_in_slot s f.places ≡ true → (picture f).place_of n ≡ Some (own n (picture f))
-  in_slot_tells e = place_is ∙ of (substrate_named s.sub f.places.held) e ∙ ap (λ (l : Loc). Some l) (sym own_is) where
-    same_place : (l m : LocId) → is_same l m ≡ true → loc_of l ≡ loc_of m
-    same_place (Slot p k) (Slot q j) e =
-        let parts = and_parts (p.0 == q.0) (k.0 == j.0) e in
-        ap (λ (x : ℕ). slot x k.0) ((Decides-eqb p.0 q.0).0 parts.0) ∙ ap (λ (x : ℕ). slot q.0 x) ((Decides-eqb k.0 j.0).0 parts.1)
-    same_place (Slot p k) Aligner e = absurd (true≢false (sym e))
-    same_place (Slot p k) Arm e = absurd (true≢false (sym e))
-    same_place (Slot p k) (Chamber c) e = absurd (true≢false (sym e))
-    same_place Aligner (Slot p k) e = absurd (true≢false (sym e))
-    same_place Aligner Aligner e = refl
-    same_place Aligner Arm e = absurd (true≢false (sym e))
-    same_place Aligner (Chamber c) e = absurd (true≢false (sym e))
-    same_place Arm (Slot p k) e = absurd (true≢false (sym e))
-    same_place Arm Aligner e = absurd (true≢false (sym e))
-    same_place Arm Arm e = refl
-    same_place Arm (Chamber c) e = absurd (true≢false (sym e))
-    same_place (Chamber c) (Slot p k) e = absurd (true≢false (sym e))
-    same_place (Chamber c) Aligner e = absurd (true≢false (sym e))
-    same_place (Chamber c) Arm e = absurd (true≢false (sym e))
-    same_place (Chamber c) (Chamber d) e = ap law.chamber ((Decides-eqb c d).0 e)
-
-    of : (o : Option Registered) → is_there s.slot o ≡ true → option_map (λ (r : Registered). loc_of r.at) o ≡ Some (loc_of s.slot)
-    of None e = absurd (true≢false (sym e))
-    of (Some r) e = ap (λ (l : Loc). Some l) (same_place r.at s.slot e)
-
   -- and one there is in its slot
   pub in_slot_from : (picture f).place_of n ≡ Some (own n (picture f)) → is_in_slot s f.places ≡ true
   in_slot_from e = of (substrate_named s.sub f.places.held) (sym place_is ∙ e ∙ ap (λ (l : Loc). Some l) (own_is ∙ ap loc_of its_own.2.own)) where
-    same_slot : (l : LocId) → loc_of l ≡ loc_of (Slot its_own.2.port its_own.2.slot) → is_same l (Slot its_own.2.port its_own.2.slot) ≡ true
-    same_slot (Slot q j) e =
-        let port : q.0 ≡ its_own.2.port.0 = cc in
-        let number : j.0 ≡ its_own.2.slot.0 = cc in
-        rw ((Decides-eqb q.0 its_own.2.port.0).1 port, (Decides-eqb j.0 its_own.2.slot.0).1 number) refl
-    same_slot Aligner e = absurd (cc)
-    same_slot Arm e = absurd (cc)
-    same_slot (Chamber c) e = absurd (cc)
-
     of : (o : Option Registered) → option_map (λ (r : Registered). loc_of r.at) o ≡ Some (loc_of (Slot its_own.2.port its_own.2.slot)) → is_there s.slot o ≡ true
     of None e = absurd (cc)
-    of (Some r) e = ap (is_same r.at) its_own.2.own ∙ same_slot r.at (some_same _ _ e)
+    of (Some r) e = ap (is_same r.at) its_own.2.own ∙ same_loc r.at (Slot its_own.2.port its_own.2.slot) (some_same _ _ e)
 
   -- who is in its slot or removed isn't outside
   pub back_tells : (is_in_slot s f.places || is_removed s f.places) ≡ true → law.is_outside ((picture f).place_of n) ≡ false
   back_tells e = sym outside_same ∙ of (substrate_named s.sub f.places.held) refl where
-    slot_apart : (l : LocId) → is_same l (Slot its_own.2.port its_own.2.slot) ≡ true → is_work_place l ≡ false
-    slot_apart (Slot q j) e = refl
-    slot_apart Aligner e = absurd (true≢false (sym e))
-    slot_apart Arm e = absurd (true≢false (sym e))
-    slot_apart (Chamber c) e = absurd (true≢false (sym e))
-
-    or_false : (x : Bool) → (x || false) ≡ true → x ≡ true
-    or_false true e = refl
-    or_false false e = e
-
     of : (o : Option Registered) → substrate_named s.sub f.places.held ≡ o → is_outside s f.places ≡ false
     of None q = rw q refl
     of (Some r) q =
-        let there : is_there s.slot (Some r) ≡ true = or_false (is_there s.slot (Some r)) (sym (ap (λ (o : Option Registered). is_there s.slot o || not (is_some o)) q) ∙ e) in
-        ap is_at_work q ∙ slot_apart r.at (sym (ap (is_same r.at) its_own.2.own) ∙ there)
+        let there : is_there s.slot (Some r) ≡ true = sym (or-false (is_there s.slot (Some r))) ∙ (sym (ap (λ (o : Option Registered). is_there s.slot o || not (is_some o)) q) ∙ e) in
+        ap is_at_work q ∙ ap is_work_place (same_is r.at (Slot its_own.2.port its_own.2.slot) (sym (ap (is_same r.at) its_own.2.own) ∙ there))

@@ -6,7 +6,7 @@ use Rattle.std.proofs.lemmas.Bool.Decides.{Decides-eqb}
 use Rattle.gem_tables.specs.Table.{Row, is_among, row_starts, after}
 use Rattle.process_job.specs.Tables.{job_table, job_number}
 use Rattle.process_job.specs.declared.record.JobState.{JobState}
-use Rattle.process_job.specs.declared.record.JobState.TheVariants.{Queued, SettingUp, WaitingForStart, Processing, Complete, Pausing, Paused, Stopping, Aborting}
+use Rattle.process_job.specs.declared.record.JobState.TheVariants.{Queued, SettingUp, Complete}
 use Rattle.place_laws.specs.Picture.{is_complete}
 use Rattle.place_laws.specs.Sound.{is_queued}
 
@@ -22,26 +22,12 @@ after_so P number (r ∷ rows) row state stays all = of (row_starts number r row
 -- who starts where a job is QUEUED
 pub queued_tells : (s : JobState) → is_among job_number (Queued ∷ []) s ≡ true → s ≡ Queued
 queued_tells Queued e = refl
-queued_tells SettingUp e = absurd (true≢false (sym e))
-queued_tells WaitingForStart e = absurd (true≢false (sym e))
-queued_tells Processing e = absurd (true≢false (sym e))
-queued_tells Complete e = absurd (true≢false (sym e))
-queued_tells Pausing e = absurd (true≢false (sym e))
-queued_tells Paused e = absurd (true≢false (sym e))
-queued_tells Stopping e = absurd (true≢false (sym e))
-queued_tells Aborting e = absurd (true≢false (sym e))
+queued_tells _ e = absurd (true≢false (sym e))
 
 -- who starts where it is PROCESS COMPLETE
 pub complete_tells : (s : JobState) → is_among job_number (Complete ∷ []) s ≡ true → is_complete s ≡ true
-complete_tells Queued e = absurd (true≢false (sym e))
-complete_tells SettingUp e = absurd (true≢false (sym e))
-complete_tells WaitingForStart e = absurd (true≢false (sym e))
-complete_tells Processing e = absurd (true≢false (sym e))
 complete_tells Complete e = refl
-complete_tells Pausing e = absurd (true≢false (sym e))
-complete_tells Paused e = absurd (true≢false (sym e))
-complete_tells Stopping e = absurd (true≢false (sym e))
-complete_tells Aborting e = absurd (true≢false (sym e))
+complete_tells _ e = absurd (true≢false (sym e))
 
 -- one that is begun isn't QUEUED behind any row
 pub after_begun : (row : ℕ) (s : JobState) → is_queued s ≡ false → is_queued (after job_number job_table row s) ≡ false

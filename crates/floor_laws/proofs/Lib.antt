@@ -17,8 +17,6 @@ pub mod GrowRows
 pub mod GrowTaken
 pub mod GrowEnds
 pub mod GrowRemoved
-pub mod GrowMoved
-pub mod GrowLost
 pub mod GrowTransfer
 pub mod OpenCommands
 pub mod OpenRows
@@ -59,5 +57,4 @@ pub mod FloorRemoved
 pub mod FloorRows
 pub mod FloorInputs
 pub mod FloorPlaces
-pub mod FloorHost
 pub mod FloorStill

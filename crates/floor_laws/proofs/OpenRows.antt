@@ -167,9 +167,8 @@ move_opens (Some r) m o f = effect_opens r.does m o f
 
 -- a state that a module is in then opens nothing
 state_opens : (x : ModuleState) (y : Module) (c : Command) (b : Bool) → in_state x y ≡ Busy c b → y ≡ Busy c b
-state_opens state.Idle y c b e = absurd (cc)
 state_opens state.Busy y c b e = e
-state_opens state.Down y c b e = absurd (cc)
+state_opens _ y c b e = absurd (cc)
 
 moved_opens : (row m : ℕ) (f : ToolFloor) → Opens f (moved_by row m f)
 moved_opens row m f =

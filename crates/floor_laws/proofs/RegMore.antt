@@ -12,6 +12,7 @@ use Rattle.floor_model.specs.declared.tracked.Substrate.{Substrate}
 use Rattle.floor_model.specs.Floor.{substrate_numbered, number_of}
 use Rattle.floor_model.specs.Floor.{RiseTo}
 use Rattle.place_laws.specs.Standing.{AreApart}
+use Rattle.floor_laws.proofs.GrowFound.{numbers_rise}
 
 -- ---- one more
 
@@ -59,17 +60,12 @@ found_last n (s ∷ ss) x is none = of (s.number == n) none (found_last n ss x i
 
 -- ---- numbers that were not given
 
--- places have none
-last_held : (last given : ℕ) (rs : List Registered) → AreNumbered last given rs → last ≤ given
-last_held last given [] rising = rising
-last_held last given (r ∷ rs) rising = let more = rising.0 in let rest = last_held r.number given rs rising.1 in omega (arith, more, rest)
-
 -- so none has a number past the last that was given
 pub none_held : (last given n : ℕ) (rs : List Registered) → AreNumbered last given rs → given < n → is_one_of (map (λ (r : Registered). r.number) rs) n ≡ false
 none_held last given n [] rising past = refl
 none_held last given n (r ∷ rs) rising past = of (r.number == n) refl (none_held r.number given n rs rising.1 past) where
   of : (b : Bool) → (r.number == n) ≡ b → is_one_of (map (λ (x : Registered). x.number) rs) n ≡ false → (b || is_one_of (map (λ (x : Registered). x.number) rs) n) ≡ false
-  of true e rest = let same = (Decides-eqb r.number n).0 e in let less = last_held r.number given rs rising.1 in absurd (omega (arith, same, less, past))
+  of true e rest = let same = (Decides-eqb r.number n).0 e in let less = numbers_rise r.number given rs rising.1 in absurd (omega (arith, same, less, past))
   of false e rest = rest
 
 -- and no job has the number 0

@@ -15,23 +15,17 @@ use Rattle.floor_moves.specs.Floor.{Task, pick, place, align, process, named, bu
 use Rattle.floor_moves.specs.Valid.{Members}
 use Rattle.place_laws.specs.Picture.{picture, loc_of, numbered, number_or_none, task_of, module_of}
 use Rattle.place_laws.proofs.Holding.{none_before}
-
--- the name of the substrate that a task names
-abbrev pub sub_of : ToolTask → List ℕ
-sub_of (task.Pick sub from) = sub
-sub_of (task.Place sub to) = sub
-sub_of (task.Align sub) = sub
-sub_of (task.Process sub recipe) = sub
+use Rattle.floor_model.specs.Naming.{named_by}
 
 -- its number is what the task names by numbers
-pub task_names : (t : ToolTask) (p : PlaceMap) → named (task_of t p) ≡ numbered (sub_of t) p
+pub task_names : (t : ToolTask) (p : PlaceMap) → named (task_of t p) ≡ numbered (named_by t) p
 task_names (task.Pick sub from) p = refl
 task_names (task.Place sub to) p = refl
 task_names (task.Align sub) p = refl
 task_names (task.Process sub recipe) p = refl
 
 -- where the name has the same number, the task is the same
-pub task_same : (t : ToolTask) (p q : PlaceMap) → numbered (sub_of t) q ≡ numbered (sub_of t) p → task_of t q ≡ task_of t p
+pub task_same : (t : ToolTask) (p q : PlaceMap) → numbered (named_by t) q ≡ numbered (named_by t) p → task_of t q ≡ task_of t p
 task_same (task.Pick sub from) p q same = ap (λ (n : ℕ). pick n (loc_of from)) same
 task_same (task.Place sub to) p q same = ap (λ (n : ℕ). place n (loc_of to)) same
 task_same (task.Align sub) p q same = ap align same
@@ -52,13 +46,13 @@ module _ (f : ToolFloor) (rising : RiseTo 0 f.places.given f.substrates) (member
       absurd (let clash : true ≡ false = sym kept ∙ none in cc)
 
   -- what the open command of a module names has its place
-  pub open_named : (m : ℕ) (command : ToolCommand) (fetched : Bool) → module_at m f.modules ≡ Some (Busy command fetched) → IsNamed f (sub_of command.task)
-  open_named m command fetched here = of (substrate_named (sub_of command.task) f.places.held) refl where
-    member : (picture f).jobs.is_member (numbered (sub_of command.task) f.places) ≡ true
+  pub open_named : (m : ℕ) (command : ToolCommand) (fetched : Bool) → module_at m f.modules ≡ Some (Busy command fetched) → IsNamed f (named_by command.task)
+  open_named m command fetched here = of (substrate_named (named_by command.task) f.places.held) refl where
+    member : (picture f).jobs.is_member (numbered (named_by command.task) f.places) ≡ true
     member = subst (λ (n : ℕ). (picture f).jobs.is_member n ≡ true) (task_names command.task f.places) (members.named m (record { number = command.number.0; task = task_of command.task f.places }) (ap (λ (o : Option ToolModule). module_of o f.places) here))
 
-    of : (o : Option Registered) → substrate_named (sub_of command.task) f.places.held ≡ o → IsNamed f (sub_of command.task)
-    of None e = absurd (not_none (numbered (sub_of command.task) f.places) member (ap (λ (o : Option Registered). number_or_none (option_map (λ (r : Registered). r.number) o)) e))
+    of : (o : Option Registered) → substrate_named (named_by command.task) f.places.held ≡ o → IsNamed f (named_by command.task)
+    of None e = absurd (not_none (numbered (named_by command.task) f.places) member (ap (λ (o : Option Registered). number_or_none (option_map (λ (r : Registered). r.number) o)) e))
     of (Some r) e = record {
       found = r;
       there = e;
@@ -74,5 +68,5 @@ module _ (f : ToolFloor) (rising : RiseTo 0 f.places.given f.substrates) (member
     of (Some Down) here = refl
     of (Some (Busy command fetched)) here =
         let w = open_named m command fetched here in
-        let same : substrate_named (sub_of command.task) q.held ≡ substrate_named (sub_of command.task) f.places.held = keeps (sub_of command.task) w.found w.there w.member ∙ sym w.there in
+        let same : substrate_named (named_by command.task) q.held ≡ substrate_named (named_by command.task) f.places.held = keeps (named_by command.task) w.found w.there w.member ∙ sym w.there in
         ap (λ (t : Task). busy (record { number = command.number.0; task = t })) (task_same command.task f.places q (ap (λ (o : Option Registered). number_or_none (option_map (λ (r : Registered). r.number) o)) same))

@@ -40,9 +40,11 @@ use Rattle.place_laws.proofs.Appended.{front}
 use Rattle.place_laws.proofs.Holding.{found_number, true_of_found, found_among, rising_given, kept_there, own_slot, IsThere}
 use Rattle.place_laws.proofs.SlotNames.{slot_of_name}
 use Rattle.picture_laws.proofs.Registering.{registering_agrees}
-use Rattle.floor_laws.proofs.RegFound.{true_at, by_number, few_of, few_held, IsAmong}
+use Rattle.floor_laws.proofs.RegFound.{few_of, few_held, IsAmong}
 use Rattle.floor_laws.proofs.RegMore.{apart_more, rise_more, found_front, found_last, none_held, no_job, own_number}
 use Rattle.floor_laws.proofs.RegNames.{modules_same}
+use Rattle.place_laws.proofs.Names.{each_found, found_by_number}
+use Rattle.floor_moves.specs.Agree.{Agree}
 
 -- a carrier that is present with a port is so there
 present_here : (c : Carrier) (port : PortNo) → c.present ≡ true → c.port ≡ Some port → is_present_at port.0 c ≡ true
@@ -144,7 +146,7 @@ module _ (s : Floor) (valid : IsFloor s) (c e : Carrier) (port : PortNo) (found 
     all = all_both (IsCarried s.carriers) (IsBelow slot.0) f.substrates fill.carried fill.below
 
     -- its substrate may be registered, by numbers
-    may : MayRegister c.number port.0 slot.0 (picture (with_shop s f))
+    pub may : MayRegister c.number port.0 slot.0 (picture (with_shop s f))
     may = record {
       is_present = ap (of_one None where_present) found ∙ ap (λ (b : Bool). if b then port_number e.port else None) present ∙ ap port_number at;
       is_read = ap (of_one false (λ (x : Carrier). is_map_verified x.states.map)) found ∙ verified;
@@ -169,7 +171,7 @@ module _ (s : Floor) (valid : IsFloor s) (c e : Carrier) (port : PortNo) (found 
       of w =
           let there : (w.0).at ≡ Slot port slot = same_is (w.0).at (Slot port slot) (found_passes (stands_at (Slot port slot)) f.places.held w.0 w.1) in
           let placed : place_in f.places (w.0).number ≡ Some (slot_at port.0 slot.0) =
-          ap (option_map (λ (r : Registered). loc_of r.at)) (by_number 0 f.places.given (stands_at (Slot port slot)) f.places.held w.0 fill.places.numbered w.1) ∙ ap (λ (l : LocId). Some (loc_of l)) there in
+          ap (option_map (λ (r : Registered). loc_of r.at)) (found_by_number 0 f.places.given (stands_at (Slot port slot)) f.places.held w.0 fill.places.numbered w.1) ∙ ap (λ (l : LocId). Some (loc_of l)) there in
           slot_free (picture (with_shop s f)) fill.by_numbers c.number port.0 slot.0 may (w.0).number placed
 
     -- nobody has the name
@@ -177,7 +179,7 @@ module _ (s : Floor) (valid : IsFloor s) (c e : Carrier) (port : PortNo) (found 
     not_known = false_from_ne_true (is_known name f.places.held) (λ is. of (found_one (has_name name) f.places.held is)) where
       of : (r : Registered) × (find (has_name name) f.places.held ≡ Some r) → ⊥
       of w =
-          let kept = true_at (IsOfKept f.substrates) (has_name name) f.places.held w.0 fill.held w.1 in
+          let kept = each_found (IsOfKept f.substrates) (has_name name) f.places.held w.0 fill.held w.1 in
           let both = true_of_found number_of (w.0).number (λ (t : Substrate). IsCarried s.carriers t × IsBelow slot.0 t) f.substrates kept.0 all kept.1 in
           not_named slot kept.0 both (kept.2 ∙ has_it name_of name w.0 (found_passes (has_name name) f.places.held w.0 w.1))
 
@@ -224,12 +226,14 @@ module _ (s : Floor) (valid : IsFloor s) (c e : Carrier) (port : PortNo) (found 
     found_still : (sub : List ℕ) (r : Registered) → substrate_named sub f.places.held ≡ Some r → substrate_named sub (f.places.held ++ new_place ∷ []) ≡ Some r
     found_still sub r there = front (has_name sub) f.places.held (new_place ∷ []) (sym (known_found (has_name sub) f.places.held) ∙ ap is_some there) ∙ there
 
+    -- its picture
+    pub slot_agrees : Agree (registered_by_numbers c.number port.0 slot.0 (picture (with_shop s f))) (picture (with_shop s behind))
+    slot_agrees =
+        registering_agrees name c.number port slot (with_shop s f) fresh (none_held 0 f.places.given (f.places.given + 1) f.places.held fill.places.numbered (omega arith)) jobless
+        (modules_same (with_shop s f) fill.rising fill.by_numbers.members (registered name (Slot port slot) f.places) (λ sub r there is. found_still sub r there))
+
     valid_behind : Valid (picture (with_shop s behind))
-    valid_behind =
-        agree-keeps (registered_by_numbers c.number port.0 slot.0 (picture (with_shop s f))) (picture (with_shop s behind))
-        (registering_agrees name c.number port slot (with_shop s f) fresh (none_held 0 f.places.given (f.places.given + 1) f.places.held fill.places.numbered (omega arith)) jobless
-        (modules_same (with_shop s f) fill.rising fill.by_numbers.members (registered name (Slot port slot) f.places) (λ sub r there is. found_still sub r there)))
-        (registered-keeps (picture (with_shop s f)) fill.by_numbers c.number port.0 slot.0 may)
+    valid_behind = agree-keeps (registered_by_numbers c.number port.0 slot.0 (picture (with_shop s f))) (picture (with_shop s behind)) slot_agrees (registered-keeps (picture (with_shop s f)) fill.by_numbers c.number port.0 slot.0 may)
 
     places_behind : ArePlaces (registered name (Slot port slot) f.places)
     places_behind = record {

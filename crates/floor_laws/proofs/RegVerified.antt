@@ -86,24 +86,20 @@ found_changed n change (x ∷ xs) c keeps e = of (x.number == n) refl e (found_c
 -- ---- the carrier
 
 -- a carrier whose map becomes VERIFIED: it wasn't, and it is present
-record Becomes (row : ℕ) (c : Carrier) : Type 0 where
-  not_yet : is_map_verified c.states.map ≡ false
-  then_is : is_map_verified (after map_number map_table row c.states.map) ≡ true
-  here : c.present ≡ true
+pub record Becomes (row : ℕ) (c : Carrier) : Type 0 where
+  pub not_yet : is_map_verified c.states.map ≡ false
+  pub then_is : is_map_verified (after map_number map_table row c.states.map) ≡ true
+  pub here : c.present ≡ true
 
 -- rows 1 and 2 start where the map is NOT READ
 not_read : (m : MapState) → is_among map_number (slots.NotRead ∷ []) m ≡ true → m ≡ slots.NotRead
 not_read slots.NotRead e = refl
-not_read slots.WaitingForHost e = absurd (cc)
-not_read slots.Verified e = absurd (cc)
-not_read slots.VerificationFailed e = absurd (cc)
+not_read _ e = absurd (cc)
 
 -- rows 3 and 4 start where it waits
 waits : (m : MapState) → is_among map_number (slots.WaitingForHost ∷ []) m ≡ true → m ≡ slots.WaitingForHost
-waits slots.NotRead e = absurd (cc)
 waits slots.WaitingForHost e = refl
-waits slots.Verified e = absurd (cc)
-waits slots.VerificationFailed e = absurd (cc)
+waits _ e = absurd (cc)
 
 -- so the carrier was read
 read_now : (s : IdState) (m : MapState) → m ≡ slots.WaitingForHost → not (is_id_not_read s && is_map_not_read m) ≡ true
@@ -113,7 +109,7 @@ read_now s m is = ap (λ (x : MapState). not (is_id_not_read s && is_map_not_rea
   of false = refl
 
 -- rows 1 and 3 are such
-becomes : (row : ℕ) (c : Carrier) → ReadWherePresent c → reaches_verified row ≡ true → carrier_starts map_number map_table (λ s. s.map) (λ to s. record s { map = to }) row (Some c) ≡ true → Becomes row c
+pub becomes : (row : ℕ) (c : Carrier) → ReadWherePresent c → reaches_verified row ≡ true → carrier_starts map_number map_table (λ s. s.map) (λ to s. record s { map = to }) row (Some c) ≡ true → Becomes row c
 becomes row c reads reaches starts =
     starts_at_carrier map_number map_table (λ s. s.map) (λ to s. record s { map = to }) (λ (r : ℕ). reaches_verified r ≡ true → Becomes r c) c row (
       (λ among wants reaches. let is = not_read c.states.map among in record { not_yet = ap is_map_verified is; then_is = ap (λ (m : MapState). is_map_verified (after map_number map_table 1 m)) is; here = (and_parts c.present _ (and_parts (is_verified c) (is_usable c.map && is_host_map c.map c.host_map) wants).0).0 }),

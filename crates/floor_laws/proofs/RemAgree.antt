@@ -29,15 +29,12 @@ use Rattle.floor_moves.proofs.Promised.{no_member}
 use Rattle.floor_moves.proofs.Scans.{filter_tells}
 use Rattle.place_laws.specs.Picture.{picture, loc_of, place_in, where_present, of_one, of_job, is_complete, chambers_in, numbers_from}
 use Rattle.place_laws.specs.Sound.{IsOfKept, Base}
-use Rattle.place_laws.proofs.Holding.{found_number, true_of_found, one_found, rising_distinct}
+use Rattle.place_laws.proofs.Holding.{found_number, true_of_found, one_found, rising_distinct, IsOne}
 use Rattle.picture_laws.proofs.Columns.{unknown_none}
-use Rattle.floor_laws.proofs.RegFound.{true_at, one_of_name}
 use Rattle.floor_laws.proofs.RegNames.{modules_same}
 use Rattle.floor_laws.proofs.RemLists.{kept_found, gone_found, none_found, any_found, own_found, only_numbered, numbers_left, held_distinct, carriers_distinct}
 use Rattle.floor_laws.proofs.RemPlaces.{stays, removed_held, removed_given, removed_chambers}
-
-abbrev IsOne : ℕ → Type 0
-IsOne k = k ≡ 1
+use Rattle.place_laws.proofs.Names.{each_found, one_of_name}
 
 -- ---- the carrier that goes
 
@@ -71,7 +68,7 @@ module _ (f : ToolFloor) (b : Base f) (name : List ℕ) (c : Carrier) (found : c
 
   -- and so is the one that goes
   pub its_own : carrier_numbered c.number f.shop.carriers ≡ Some c
-  its_own = true_at (λ (d : Carrier). carrier_numbered d.number f.shop.carriers ≡ Some d) (has_name name) f.shop.carriers c own_numbers found
+  its_own = each_found (λ (d : Carrier). carrier_numbered d.number f.shop.carriers ≡ Some d) (has_name name) f.shop.carriers c own_numbers found
 
   its_name : has_name name c ≡ true
   its_name = found_passes (has_name name) f.shop.carriers c found
@@ -130,7 +127,7 @@ module _ (f : ToolFloor) (b : Base f) (name : List ℕ) (c : Carrier) (found : c
       never : (t : Substrate) × (find (λ (t : Substrate). is_of c.number t && has_sub t.sub r) f.substrates ≡ Some t) → ⊥
       never w =
           let parts = and_parts (is_of c.number w.0) (has_sub (w.0).sub r) (found_passes (λ (t : Substrate). is_of c.number t && has_sub t.sub r) f.substrates w.0 w.1) in
-          let its = true_at (λ (t : Substrate). substrate_numbered t.number f.substrates ≡ Some t) (λ (t : Substrate). is_of c.number t && has_sub t.sub r) f.substrates w.0 (own_found number_of f.substrates substrates_apart) w.1 in
+          let its = each_found (λ (t : Substrate). substrate_numbered t.number f.substrates ≡ Some t) (λ (t : Substrate). is_of c.number t && has_sub t.sub r) f.substrates w.0 (own_found number_of f.substrates substrates_apart) w.1 in
           let one = one_of_name f b w.0 s (w.0).number r.number its here (sym ((bytes_eq-Decides r.sub (w.0).sub).0 parts.1) ∙ sym same) in
           absurd (let clash : true ≡ false = sym parts.0 ∙ ap (is_of c.number) one ∙ is in cc)
 
@@ -213,14 +210,14 @@ module _ (f : ToolFloor) (b : Base f) (name : List ℕ) (c : Carrier) (found : c
           ap (option_map (λ (x : Registered). loc_of x.at)) (none_found (stays c.number f.substrates) (λ (x : Registered). x.number == n) f.places.held e)
           ∙ nothing ((picture f).carrier_of n == c.number) (place_in f.places n) (ap (option_map (λ (x : Registered). loc_of x.at)) e)
       of (Some r) e =
-          let kept = true_at (IsOfKept f.substrates) (λ (x : Registered). x.number == n) f.places.held r b.held e in
+          let kept = each_found (IsOfKept f.substrates) (λ (x : Registered). x.number == n) f.places.held r b.held e in
           let number : r.number ≡ n = found_number (λ (x : Registered). x.number) n f.places.held r e in
           by r e kept.0 (ap (λ (k : ℕ). substrate_numbered k f.substrates) (sym number) ∙ kept.1) (stays_so r kept.0 kept.1 kept.2) (is_of c.number kept.0) refl
 
     -- what open commands name
     found_still : (sub : List ℕ) (r : Registered) → substrate_named sub f.places.held ≡ Some r → (picture f).jobs.is_member r.number ≡ true → substrate_named sub (removed_of c.number f.substrates f.places).held ≡ Some r
     found_still sub r there is =
-        let kept = true_at (IsOfKept f.substrates) (has_sub sub) f.places.held r b.held there in
+        let kept = each_found (IsOfKept f.substrates) (has_sub sub) f.places.held r b.held there in
         let other : is_of c.number kept.0 ≡ false = false_from_ne_true (is_of c.number kept.0) (λ its. jobless r.number kept.0 kept.1 ((Decides-eqb (kept.0).carrier c.number).0 its) is) in
         ap (substrate_named sub) (removed_held c.number f.substrates f.places)
         ∙ kept_found (stays c.number f.substrates) (has_sub sub) f.places.held r there (stays_so r kept.0 kept.1 kept.2 ∙ ap not other)

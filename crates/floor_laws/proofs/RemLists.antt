@@ -1,7 +1,7 @@
 -- What is found in a list of which some are left out, where each has its own number.
 use Rattle.std.proofs.Common.{◌≡◌, ◌≤◌, ◌<◌, ℕ, ◌+◌, ◌==◌, Bool, true, false, ◌||◌, if◌then◌else◌, List, [], ◌∷◌, filter, find, map, Some, None, refl, sym, ◌∙◌, ap, arith}
 use Rattle.std.specs.List.{AllByRecursion, list_any}
-use Rattle.std.proofs.lemmas.Bool.{or_parts}
+use Rattle.std.proofs.lemmas.Bool.{or_parts, or_right}
 use Rattle.std.proofs.lemmas.Bool.Decides.{Decides-eqb}
 use Rattle.gem_tables.specs.Table.{is_one_of}
 use Rattle.carrier.specs.declared.carrier.Carrier.{Carrier}
@@ -14,6 +14,7 @@ use Rattle.floor_model.specs.declared.tracked.Substrate.{Substrate}
 use Rattle.floor_model.specs.Floor.{RiseTo}
 use Rattle.floor_moves.specs.Valid.{IsDistinct}
 use Rattle.place_laws.specs.Standing.{AreApart}
+use Rattle.place_laws.proofs.Leaving.{swapped}
 
 -- ---- what is found
 
@@ -51,13 +52,9 @@ module _ {A : Type 0} (q t : A → Bool) where
   pub any_found : (xs : List A) (x : A) → find t xs ≡ Some x → q x ≡ true → list_any q xs ≡ true
   any_found [] x e is = absurd (cc)
   any_found (y ∷ ys) x e is = of (t y) e (λ f. any_found ys x f is) where
-    more : (b c : Bool) → c ≡ true → (b || c) ≡ true
-    more true c f = refl
-    more false c f = f
-
     of : (b : Bool) → (if b then Some y else find t ys) ≡ Some x → (find t ys ≡ Some x → list_any q ys ≡ true) → (q y || list_any q ys) ≡ true
     of true f rest = let same : y ≡ x = cc in ap (λ (b : Bool). b || list_any q ys) (ap q same ∙ is)
-    of false f rest = more (q y) (list_any q ys) (rest f)
+    of false f rest = or_right (q y) (list_any q ys) (rest f)
 
 -- ---- numbers
 
@@ -66,12 +63,6 @@ module _ {A : Type 0} (number : A → ℕ) where
   all_other : (n : ℕ) (xs : List A) → is_one_of (map number xs) n ≡ false → AllByRecursion (λ (x : A). (number x == n) ≡ false) xs
   all_other n [] e = tt
   all_other n (x ∷ xs) e = let parts = or_parts (number x == n) (is_one_of (map number xs) n) e in (parts.0, all_other n xs parts.1)
-
-  swapped : (n m : ℕ) → (n == m) ≡ false → (m == n) ≡ false
-  swapped n m e = of (m == n) refl where
-    of : (b : Bool) → (m == n) ≡ b → (m == n) ≡ false
-    of true f = let same : n ≡ m = sym ((Decides-eqb m n).0 f) in let t = (Decides-eqb n m).1 same in absurd (let clash : true ≡ false = sym t ∙ e in cc)
-    of false f = f
 
   -- each is found by its number
   pub own_found : (xs : List A) → IsDistinct (map number xs) → AllByRecursion (λ (x : A). find (λ (y : A). number y == number x) xs ≡ Some x) xs

@@ -37,7 +37,7 @@ all_true [] = tt
 all_true (r ∷ rs) = (refl, all_true rs)
 
 -- one of a name is removed
-removed_places : (sub : List ℕ) (p : PlaceMap) → ArePlaces p → ArePlaces (removed sub p)
+pub removed_places : (sub : List ℕ) (p : PlaceMap) → ArePlaces p → ArePlaces (removed sub p)
 removed_places sub p places = record {
   named_apart = named_fewer name_of (λ (r : Registered). not (has_sub sub r)) p.held places.named_apart;
   placed_apart = placed_fewer sub p.held places.placed_apart;

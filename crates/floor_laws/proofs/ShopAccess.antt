@@ -15,7 +15,7 @@ use Rattle.load_port.specs.Ports as ports
 use Rattle.load_port.specs.Ports.{port_numbered}
 use Rattle.carrier.specs.declared.carrier.Carrier.{Carrier}
 use Rattle.carrier.specs.Carriers as carriers
-use Rattle.carrier.specs.Carriers.{has_name, carrier_numbered, change_numbered, change_named, without, with_created, found_or_created, is_known, created, came_to, binds}
+use Rattle.carrier.specs.Carriers.{has_name, carrier_numbered, change_numbered, change_named, without, with_created, found_or_created, is_known, came_to, binds}
 use Rattle.shop_floor.specs.Floor.{Floor, with_port}
 use Rattle.shop_floor.specs.Rows.{bound_to, is_directed, owner, forgets, arrived, arrival_at, without_owner, found_does}
 use Rattle.shop_floor.specs.Machines.{floor_starts, floor_fired}

@@ -1,6 +1,6 @@
 -- The load ports and the carriers change, and what holds goes on to hold: the carriers of substrates stay, and those of members of
 -- process jobs are NOT ACCESSED or IN ACCESS still.
-use Rattle.std.proofs.Common.{◌≡◌, ◌≤◌, ℕ, true, false, List, [], ◌∷◌, Some, None, sym, ◌∙◌, ap, subst}
+use Rattle.std.proofs.Common.{◌≡◌, ◌≤◌, ℕ, true, false, List, [], ◌∷◌, Some, None, sym, ◌∙◌, ap}
 use Rattle.std.specs.List.{AllByRecursion}
 use Rattle.carrier.specs.declared.carrier.Carrier.{Carrier}
 use Rattle.carrier.specs.Tables.{access_number}
@@ -115,10 +115,6 @@ module _ (f : ToolFloor) (s : Floor) where
     unloading = unloading;
     valid = shop_valid sound.base.carried leaves.stay valid here sound.valid;
   }
-
--- where the carriers stay as they are, the floor by numbers is the same
-pub same_valid : (f : ToolFloor) (s : Floor) → s.carriers ≡ f.shop.carriers → Valid (picture f) → Valid (picture (with_shop s f))
-same_valid f s same v = subst (λ (cs : List Carrier). Valid (picture (with_shop (record s { carriers = cs }) f))) (sym same) v
 
 -- ---- locations
 

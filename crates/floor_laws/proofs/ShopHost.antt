@@ -65,7 +65,7 @@ told_access : (o : Option (List ℕ)) (name : List ℕ) (f : Floor) → SameAcce
 told_access None name f = access_same f.carriers
 told_access (Some slots) name f = access_named name (told_map slots) (λ c. refl) (λ c. refl) f.carriers f.carriers (access_same f.carriers)
 
-written_access : (w : CarrierWord) (id : List ℕ) (port : ℕ) (slots : Option (List ℕ)) (bad : Bool) (f : Floor) → IsFloor f → is_done_code (carrier_code f (action w id port slots bad)) ≡ true → SameAccess f.carriers (carrier_written (action w id port slots bad) f).carriers
+pub written_access : (w : CarrierWord) (id : List ℕ) (port : ℕ) (slots : Option (List ℕ)) (bad : Bool) (f : Floor) → IsFloor f → is_done_code (carrier_code f (action w id port slots bad)) ≡ true → SameAccess f.carriers (carrier_written (action w id port slots bad) f).carriers
 written_access word.Bind id port slots bad f valid code = directed_access id port f
 written_access word.CancelBind id port slots bad f valid code = access_same f.carriers
 written_access word.Proceed id port slots bad f valid code = told_access slots id f

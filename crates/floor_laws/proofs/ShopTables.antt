@@ -30,15 +30,13 @@ use Rattle.place_laws.proofs.ShopRows.{is_gentle, transfer_leaves, mode_leaves, 
 use Rattle.place_laws.proofs.PortsKept.{is_plain_row, row-at-ports, carrier-at-ports, states_left}
 use Rattle.place_laws.proofs.UnloadRows.{accessing-unloading, row-unloading}
 use Rattle.place_laws.proofs.Holding.{kept_there, its_carrier}
-use Rattle.floor_laws.proofs.ShopBase.{accessing, StayOpen, shop_base, shop_valid, shop_sound, location_sound}
+use Rattle.floor_laws.proofs.ShopBase.{accessing, StayOpen, shop_valid, shop_sound, location_sound}
 use Rattle.floor_laws.proofs.ShopAccess.{SameAccess, found_numbered, stays_open, transfer_access, mode_access, reservation_access, association_access, id_access, map_access}
+use Rattle.std.proofs.Math.Bool.{or-false}
 
 -- ---- table 4, also where it is not told what holds of ports: so behind row 5, which removes a carrier
 
 module _ (f : ToolFloor) (port row : ℕ) (starts : floor_starts (firing 4 port row) f ≡ true) (b : Base f) where
-  pub transfer_base : Base (floor_fired (firing 4 port row) f)
-  transfer_base = shop_base f (shop.floor_fired (firing 4 port row) f.shop) (transfer_leaves f.substrates f.shop port row) (shop_keeps (firing 4 port row) f.shop starts b.shop) b
-
   pub transfer_valid : Valid (picture f) → Valid (picture (floor_fired (firing 4 port row) f))
   transfer_valid v =
       let g = shop.floor_fired (firing 4 port row) f.shop in
@@ -47,7 +45,7 @@ module _ (f : ToolFloor) (port row : ℕ) (starts : floor_starts (firing 4 port 
 -- ---- table 10
 
 -- behind the row the carrier is NOT ACCESSED or IN ACCESS, or no process job names it
-abbrev MayAccess : ToolFloor → ℕ → Carrier → Type 0
+abbrev pub MayAccess : ToolFloor → ℕ → Carrier → Type 0
 MayAccess f row c = (accessing (carriers.fires_row 10 row c) ≤ 1) ⊎ (is_any_of_carrier c.name f.jobs ≡ false)
 
 module _ (f : ToolFloor) (sound : Sound f) (n row : ℕ) (c : Carrier) (known : carrier_numbered n f.shop.carriers ≡ Some c) (may : MayAccess f row c) where
@@ -84,16 +82,14 @@ cancel_sound f n c known starts none sound = accessed_sound f sound n 4 c known 
 -- row 1 ends IN ACCESS
 begins : (x : Accessing) → is_among access_number (access.NotAccessed ∷ []) x ≡ true → access_number (after access_number accessing_table 1 x) ≤ 1
 begins access.NotAccessed among = omega arith
-begins access.InAccess among = absurd (cc)
-begins access.Complete among = absurd (cc)
-begins access.Stopped among = absurd (cc)
+begins _ among = absurd (cc)
 
 -- no process job names a carrier that is quiet
 quiet_unnamed : (c : Carrier) (f : ToolFloor) (b : Bool) → (is_quiet c f && b) ≡ true → is_any_of_carrier c.name f.jobs ≡ false
 quiet_unnamed c f b e = not-true _ (and_parts (not (is_any_of_carrier c.name f.jobs)) (are_back c.number f) (and_parts (is_quiet c f) b e).0).0
 
 -- rows 1 to 3
-may_access : (f : ToolFloor) (row : ℕ) (c : Carrier) → (row == 4) ≡ false → accessing_starts row (Some c) f ≡ true → MayAccess f row c
+pub may_access : (f : ToolFloor) (row : ℕ) (c : Carrier) → (row == 4) ≡ false → accessing_starts row (Some c) f ≡ true → MayAccess f row c
 may_access f row c other starts = of (row_of accessing_table row) refl starts other where
   Kind : CarrierRow Accessing → Type 0
   Kind r = (is_creation r.by || is_among access_number r.from c.states.access) ≡ true → accessing_wants r.wants c f ≡ true → (r.number == 4) ≡ false → MayAccess f r.number c
@@ -124,7 +120,7 @@ is_shop_row x =
     && (is_one_of (4 ∷ 5 ∷ 6 ∷ 7 ∷ 8 ∷ 11 ∷ []) x.row.table || ((x.row.table == 9) && not (reaches_verified x.row.row) || (x.row.table == 10) && not (x.row.row == 4)))
 
 -- a row of table 7 that takes nothing along
-takes_none : (row port : ℕ) (f : ToolFloor) → is_gentle row ≡ true → taken_along row port f ≡ f
+pub takes_none : (row port : ℕ) (f : ToolFloor) → is_gentle row ≡ true → taken_along row port f ≡ f
 takes_none row port f gentle = of (row == 6) refl where
   of : (t : Bool) → (row == 6) ≡ t → (if t then without_carrier (owner_number port f.shop) f else f) ≡ f
   of true is =
@@ -145,7 +141,7 @@ shop_row_sound x f starts kind sound =
             (
               (λ s kind. by_shop 8 x.object x.row.row s refl (id_leaves f.substrates f.shop x.object x.row.row) (id_access f.shop x.object x.row.row)),
               (
-                (λ s kind. slots x.object x.row.row s (not-true _ (unverified x.row.row kind))),
+                (λ s kind. slots x.object x.row.row s (not-true _ (sym (or-false (not (reaches_verified x.row.row))) ∙ kind))),
                 (
                   (λ s kind. accessing_sound f x.object x.row.row (not-true _ kind) s sound),
                   (
@@ -162,12 +158,6 @@ shop_row_sound x f starts kind sound =
     starts kind where
       plain : (table : ℕ) → is_shop_row (firing table x.object x.row.row) ≡ true → is_plain_row (firing table x.object x.row.row) ≡ true
       plain table e = (and_parts (is_plain_row (firing table x.object x.row.row)) _ e).0
-
-      unverified : (row : ℕ) → (not (reaches_verified row) || false) ≡ true → not (reaches_verified row) ≡ true
-      unverified row e = of (not (reaches_verified row)) e where
-        of : (t : Bool) → (t || false) ≡ true → t ≡ true
-        of true e = refl
-        of false e = e
 
       by_shop : (table object row : ℕ) → shop.floor_starts (firing table object row) f.shop ≡ true → is_plain_row (firing table object row) ≡ true → Leaves f.substrates f.shop (shop.floor_fired (firing table object row) f.shop)
           → SameAccess f.shop.carriers (shop.floor_fired (firing table object row) f.shop).carriers → Sound (with_shop (shop.floor_fired (firing table object row) f.shop) f)

@@ -30,6 +30,7 @@ use Rattle.gem_model.specs.Direct.{Are}
 use Rattle.gem_model.proofs.Tests.{either_way}
 use Rattle.gem_model.proofs.FloorRows.{IsFloorRow, IsOfInput, input_line, input_transfer, input_access, input_reservation, input_binding, input_name, input_map, input_process, input_control, input_module, effect_is}
 use Rattle.gem_model.proofs.Listed.{IsFree, free_enabled, free_met, free_attempted, free_off_line, free_elsewhere, free_unload, free_purge, free_floor, IsEnd}
+use Rattle.place_laws.proofs.PortRequests.{action}
 
 common_so : {f x : Firing} → is_common x ≡ true → f ≡ x → is_common f ≡ true
 common_so is same = rw same is
@@ -96,19 +97,10 @@ well_formed : (x : Bool) (m : Caack) → is_done_code (if x then caack.Faulty el
 well_formed true m e = absurd (cc)
 well_formed false m e = e
 
--- an action of these parts
-abbrev action : CarrierWord → List ℕ → ℕ → Option (List ℕ) → Bool → CarrierAction
-action w id port slots bad = record { word = w; id = id; port = port; map = slots; bad_attr = bad }
-
 cancel_so : (w : CarrierWord) (id : List ℕ) (port : ℕ) (slots : Option (List ℕ)) (bad : Bool) (cs : List Carrier) (ports : List PortView) (named : Bool) → w ≡ word.Cancel
     → is_done_code (carrier_caack cs ports (action w id port slots bad) named) ≡ true → is_done_code (cancel_code (carrier_named id cs) named) ≡ true
-cancel_so word.Bind id port slots bad cs ports named is e = absurd (cc)
-cancel_so word.CancelBind id port slots bad cs ports named is e = absurd (cc)
-cancel_so word.Proceed id port slots bad cs ports named is e = absurd (cc)
 cancel_so word.Cancel id port slots bad cs ports named is e = well_formed (bad || (not (is_carrier_name id) || nat_lt (length ports) port)) (cancel_code (carrier_named id cs) named) e
-cancel_so word.Notify id port slots bad cs ports named is e = absurd (cc)
-cancel_so word.CancelNotify id port slots bad cs ports named is e = absurd (cc)
-cancel_so word.Unknown id port slots bad cs ports named is e = absurd (cc)
+cancel_so _ id port slots bad cs ports named is e = absurd (cc)
 
 -- where it is done, so its code says
 pub cancel_done : (a : CarrierAction) (f : ToolFloor) → a.word ≡ word.Cancel → is_done_code (carrier_code a f) ≡ true → is_done_code (cancel_code (carrier_named a.id f.shop.carriers) (is_any_of_carrier a.id f.jobs)) ≡ true

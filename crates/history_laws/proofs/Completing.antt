@@ -14,10 +14,7 @@ use Rattle.control_job.specs.Jobs.{job_numbered as control_numbered, is_open, nu
 use Rattle.control_job.specs.Tables.{states_number}
 use Rattle.control_job.specs.Record.{control_fired as states_fired, is_completed}
 use Rattle.control_job.specs.declared.job.ControlJob.{ControlJob}
-use Rattle.control_job.specs.declared.record.ControlState.{ControlState}
-use Rattle.control_job.specs.declared.record.ControlState.TheVariants.{Queued, Selected, WaitingForStart, Executing, Paused, Completed}
-use Rattle.control_job.specs.declared.record.Ending.{Ending}
-use Rattle.control_job.specs.declared.record.Ending.TheVariants.{No, ByStop, ByAbort}
+use Rattle.control_job.specs.declared.record.ControlJobRecord.{ControlJobRecord}
 use Rattle.control_job.proofs.Keeping.{fires_number}
 use Rattle.tool_jobs.specs.Rows.{control_starts}
 use Rattle.tool_events.specs.declared.config.Config.{Config}
@@ -36,6 +33,7 @@ use Rattle.floor_laws.specs.Rows.{listed}
 use Rattle.owed_laws.specs.Owed.{owed_to, number_of}
 use Rattle.queue_laws.specs.Steers.{is_executing, AreAutomatic}
 use Rattle.queue_laws.proofs.Lists.{number_is, changed_back}
+use Rattle.queue_laws.proofs.Rows.{by_executing}
 use Rattle.lot_laws.specs.Lot.{counted_of, IsMaterialHere, Executes, InOrder, IsCalmBetween}
 use Rattle.lot_laws.proofs.Beginning.{executes_then, owed_then}
 use Rattle.lot_laws.proofs.Controls.{rest_owes}
@@ -80,7 +78,7 @@ behind_entry P g entry here there acted = of g.quitting (acts g.moment (raised g
   of false (Some o) q a = acted o (ap (λ (b : Bool). if b then None else acts g.moment (raised g entry.at.0) entry.event) q ∙ a)
 
 -- the event acted, before the run has ended
-acted_so : (g : State) (entry : Entry) (o : Outcome) → input_of g entry ≡ Some o → (g.quitting ≡ false) × (acts g.moment (raised g entry.at.0) entry.event ≡ Some o)
+pub acted_so : (g : State) (entry : Entry) (o : Outcome) → input_of g entry ≡ Some o → (g.quitting ≡ false) × (acts g.moment (raised g entry.at.0) entry.event ≡ Some o)
 acted_so g entry o here = of g.quitting refl here where
   of : (b : Bool) → g.quitting ≡ b → (if b then None else acts g.moment (raised g entry.at.0) entry.event) ≡ Some o → (g.quitting ≡ false) × (acts g.moment (raised g entry.at.0) entry.event ≡ Some o)
   of true q e = none_some o e
@@ -99,10 +97,10 @@ order_acts g entry o order rest here =
 order_settled : (g : State) → InOrder g.floor → InOrder (settled g).floor
 order_settled g order = settled_keeps (λ (h : State). InOrder h.floor) (fact_automatic InOrder order_fact.ready) (fact_creation InOrder) g order
 
-order_entry : (g : State) (entry : Entry) → InOrder g.floor → AtRest g → InOrder (entry_after g entry).floor
+pub order_entry : (g : State) (entry : Entry) → InOrder g.floor → AtRest g → InOrder (entry_after g entry).floor
 order_entry g entry order rest = behind_entry (λ (h : State). InOrder h.floor) g entry order order (λ o here. order_settled o.after (order_acts g entry o order rest here))
 
-rest_entry : (g : State) (entry : Entry) → AtRest g → AtRest (entry_after g entry)
+pub rest_entry : (g : State) (entry : Entry) → AtRest g → AtRest (entry_after g entry)
 rest_entry g entry rest = behind_entry AtRest g entry rest rest (λ o here. settled-rests o.after)
 
 -- ---- Done
@@ -154,27 +152,6 @@ done_floor m k g is =
 
 -- ---- completion
 
--- one that is EXECUTING is COMPLETED behind row 8
-closes_8 : (state : ControlState) (ending : Ending) → (states_number (record { state = state; ending = ending }) == 3) ≡ true → is_completed (states_fired 8 (record { state = state; ending = ending })).state ≡ true
-closes_8 Executing No e = refl
-closes_8 Executing ByStop e = refl
-closes_8 Executing ByAbort e = refl
-closes_8 Queued No e = absurd (true≢false (sym e))
-closes_8 Queued ByStop e = absurd (true≢false (sym e))
-closes_8 Queued ByAbort e = absurd (true≢false (sym e))
-closes_8 Selected No e = absurd (true≢false (sym e))
-closes_8 Selected ByStop e = absurd (true≢false (sym e))
-closes_8 Selected ByAbort e = absurd (true≢false (sym e))
-closes_8 WaitingForStart No e = absurd (true≢false (sym e))
-closes_8 WaitingForStart ByStop e = absurd (true≢false (sym e))
-closes_8 WaitingForStart ByAbort e = absurd (true≢false (sym e))
-closes_8 Paused No e = absurd (true≢false (sym e))
-closes_8 Paused ByStop e = absurd (true≢false (sym e))
-closes_8 Paused ByAbort e = absurd (true≢false (sym e))
-closes_8 Completed No e = absurd (true≢false (sym e))
-closes_8 Completed ByStop e = absurd (true≢false (sym e))
-closes_8 Completed ByAbort e = absurd (true≢false (sym e))
-
 -- a job that is kept has a number that was given
 rising_to : (last given : ℕ) (ns : List ℕ) → AreRising last given ns → last ≤ given
 rising_to last given [] r = r
@@ -191,7 +168,7 @@ within_given n last given (d ∷ ds) c r e = of (d.number == n) refl e (within_g
 
 module _ (number : ℕ) (counted : ℕ → Bool) where
   -- so much is owed to one that executes
-  abbrev Owes : ℕ → ToolFloor → Type 0
+  abbrev pub Owes : ℕ → ToolFloor → Type 0
   Owes k f = Executes number counted f × (owed_to counted (picture f) ≡ k)
 
   -- so it is while the tool settles; or it has completed, and none was owed
@@ -205,7 +182,7 @@ module _ (number : ℕ) (counted : ℕ → Bool) where
     closed : (c : ControlJob) → control_numbered number f.jobs.control.jobs ≡ Some c → (states_number c.states == 3) ≡ true → is_open (fires_at number 8 c) ≡ false
     closed c found three =
         let its : (c.number == number) ≡ true = (Decides-eqb c.number number).1 (number_is number f.jobs.control.jobs c found) in
-        ap (λ (b : Bool). is_open (if b then fires_row 8 c else c)) its ∙ ap not (closes_8 c.states.state c.states.ending three)
+        ap (λ (b : Bool). is_open (if b then fires_row 8 c else c)) its ∙ by_executing (λ (x : ControlJobRecord). not (is_completed (states_fired 8 x).state) ≡ false) refl c.states three
 
     of : (o : Option ControlJob) → control_numbered number f.jobs.control.jobs ≡ o → is_executing o ≡ true → IsPast number (floor_fired (firing 15 number 8) f).jobs.control
     of None found is = absurd (true≢false (sym is))
@@ -237,10 +214,10 @@ module _ (number : ℕ) (counted : ℕ → Bool) where
   -- ---- at rest, before and behind its completion
 
   -- so many Dones came, of all; while it executes some are owed, and behind its completion none are
-  record Stands (all d : ℕ) (g : State) : Type 0 where
-    order : InOrder g.floor
-    rest : AtRest g
-    stands : ((k : ℕ) × Owes k g.floor × (k + d ≡ all)) ⊎ ((all ≤ d) × IsPast number g.floor.jobs.control)
+  pub record Stands (all d : ℕ) (g : State) : Type 0 where
+    pub order : InOrder g.floor
+    pub rest : AtRest g
+    pub stands : ((k : ℕ) × Owes k g.floor × (k + d ≡ all)) ⊎ ((all ≤ d) × IsPast number g.floor.jobs.control)
 
   stands_end : (all d k : ℕ) (g : State) → Goes k (settled g).floor → k + d ≡ all → Stands all d (settled g)
   stands_end all d k g at sum = record { order = at.order; rest = settled-rests g; stands = of at.goes } where
@@ -302,7 +279,7 @@ module _ (number : ℕ) (counted : ℕ → Bool) where
         (k, record { order = carried.0; goes = inl (behind.0, behind.1 ∙ owes.1) }, (let zero = none g refl in omega (arith, zero)))
 
   -- an entry that doesn't disturb it
-  stands_entry : (all d k : ℕ) (g : State) (entry : Entry) → InOrder g.floor → AtRest g → Owes k g.floor → k + d ≡ all
+  pub stands_entry : (all d k : ℕ) (g : State) (entry : Entry) → InOrder g.floor → AtRest g → Owes k g.floor → k + d ≡ all
       → ((o : Outcome) → input_of g entry ≡ Some o → IsCalmBetween number counted g.floor o.after.floor)
       → Stands all (d + (if g.quitting then 0 else done_of g entry.event)) (entry_after g entry)
   stands_entry all d k g entry order rest owes sum calm = of g.quitting (acts g.moment (raised g entry.at.0) entry.event) refl refl where
@@ -326,29 +303,20 @@ module _ (number : ℕ) (counted : ℕ → Bool) where
   abbrev Ends : ℕ → ℕ → State → Type 0
   Ends all d g = has_completed (control_of number g) ≡ nat_le all d
 
-  past_ends : (all d : ℕ) (g : State) → all ≤ d → IsPast number g.floor.jobs.control → Ends all d g
-  past_ends all d g enough past = of (control_of number g) refl where
-    many : nat_le all d ≡ true
-    many = grind (arith, nat_tests, enough)
+  -- one that is past has completed
+  pub past_completed : (g : State) → IsPast number g.floor.jobs.control → has_completed (control_of number g) ≡ true
+  past_completed g past = of (control_of number g) refl where
+    of : (o : Option ControlJob) → control_of number g ≡ o → has_completed o ≡ true
+    of None at = refl
+    of (Some c) at = ap not (past.closed c at)
 
-    of : (o : Option ControlJob) → control_of number g ≡ o → has_completed o ≡ nat_le all d
-    of None at = sym many
-    of (Some c) at = ap not (past.closed c at) ∙ sym many
+  past_ends : (all d : ℕ) (g : State) → all ≤ d → IsPast number g.floor.jobs.control → Ends all d g
+  past_ends all d g enough past = past_completed g past ∙ sym (let many : nat_le all d ≡ true = grind (arith, nat_tests, enough) in many)
 
   -- one that executes isn't COMPLETED
-  open_3 : (state : ControlState) (ending : Ending) → (states_number (record { state = state; ending = ending }) == 3) ≡ true → not (not (is_completed state)) ≡ false
-  open_3 Executing ending e = refl
-  open_3 Queued ending e = refl
-  open_3 Selected ending e = refl
-  open_3 WaitingForStart ending e = refl
-  open_3 Paused ending e = refl
-  open_3 Completed No e = absurd (true≢false (sym e))
-  open_3 Completed ByStop e = absurd (true≢false (sym e))
-  open_3 Completed ByAbort e = absurd (true≢false (sym e))
-
   executing_open : (o : Option ControlJob) → is_executing o ≡ true → has_completed o ≡ false
   executing_open None is = absurd (true≢false (sym is))
-  executing_open (Some c) is = open_3 c.states.state c.states.ending is
+  executing_open (Some c) is = by_executing (λ (x : ControlJobRecord). not (not (is_completed x.state)) ≡ false) refl c.states is
 
   -- some are owed at rest
   owed_ends : (all d k : ℕ) (g : State) → InOrder g.floor → AtRest g → Owes k g.floor → k + d ≡ all → Ends all d g
@@ -397,7 +365,7 @@ module _ (number : ℕ) where
     )
 
   -- where it starts, so it stands behind the entry
-  started_stands : (g : State) (entry : Entry) (f : State) → InOrder g.floor → AtRest g → StartsAt number g entry f → AreAutomatic number f.floor.jobs → IsMaterialHere number f.floor
+  pub started_stands : (g : State) (entry : Entry) (f : State) → InOrder g.floor → AtRest g → StartsAt number g entry f → AreAutomatic number f.floor.jobs → IsMaterialHere number f.floor
       → Stands number (counted_of number f.floor) (8 * number_of (counted_of number f.floor) (picture f.floor)) 0 (entry_after g entry)
   started_stands g entry _ order rest (by_word o here starts is) auto material =
       let counted = counted_of number g.floor in

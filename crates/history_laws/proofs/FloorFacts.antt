@@ -10,7 +10,7 @@ use Rattle.note_line.specs.Table3.{line_starts}
 use Rattle.note_line.specs.Table3 as table
 use Rattle.load_port.specs.Caack.{is_done_code}
 use Rattle.load_port.specs.Ports as ports
-use Rattle.load_port.specs.Ports.{most_ports, port_numbered, change_port}
+use Rattle.load_port.specs.Ports.{port_numbered}
 use Rattle.carrier.specs.declared.action.CarrierAction.{CarrierAction}
 use Rattle.carrier.specs.declared.action.CarrierWord.{CarrierWord}
 use Rattle.carrier.specs.declared.action.CarrierWord.TheVariants as word
@@ -260,9 +260,6 @@ module _ (Rest : Event → State → Type 0) (F : ToolFloor → Type 0) (fact : 
             subst F (sym floor) (fact.removal_left g port here next st)
 
   -- ---- modules
-
-  fact_alarm : (g : State) (alid : ℕ) → At g → At (sets_alarm alid g)
-  fact_alarm g alid st = either_way At _ _ g st st
 
   -- an alarm leaves the floor as it is
   alarm_floor : (g : State) (alid : ℕ) → (sets_alarm alid g).floor ≡ g.floor

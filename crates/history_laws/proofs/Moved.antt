@@ -9,7 +9,6 @@ use Rattle.load_port.specs.Ports.{most_ports}
 use Rattle.robot_moves.specs.declared.module.Module.{Module}
 use Rattle.robot_moves.specs.declared.module.Module.TheVariants.{Idle, Busy, Down}
 use Rattle.robot_moves.specs.Modules.{module_at, is_open, is_up}
-use Rattle.substrate.specs.Places.{ArePlaces, PlaceMap}
 use Rattle.floor_model.specs.Floor.{ToolFloor}
 use Rattle.floor_model.specs.Modules.{number_named}
 use Rattle.floor_model.specs.Signals.{done_rows, closing_rows, lost_rows}
@@ -23,11 +22,11 @@ use Rattle.tool_events.specs.declared.event.OperCmd.TheVariants as oper
 use Rattle.tool_events.specs.declared.event.Signal.{Signal}
 use Rattle.tool_events.specs.declared.event.Signal.TheVariants as signal
 use Rattle.tool_events.specs.declared.answer.Answer.TheVariants as answer
-use Rattle.floor_moves.specs.Floor.{Loc, slot, arm}
-use Rattle.place_laws.specs.Picture.{loc_of, place_in}
+use Rattle.floor_moves.specs.Floor.{Loc, slot}
+use Rattle.place_laws.specs.Picture.{place_in}
 use Rattle.place_laws.specs.Sound.{Sound}
 use Rattle.floor_laws.specs.Rows.{listed}
-use Rattle.floor_laws.specs.Moves.{Picked, Placed, DoneAt, LostAt}
+use Rattle.floor_laws.specs.Moves.{Picked, Placed}
 use Rattle.floor_laws.proofs.FloorRows.{row_sound, least_sound}
 use Rattle.floor_laws.proofs.FloorStill.{least_still, common_still}
 use Rattle.floor_laws.proofs.FloorInputs.{done_sound, failed_sound, down_sound, lost_rows_sound}
@@ -52,8 +51,8 @@ use Rattle.gem_model.specs.Settle.{settled}
 use Rattle.gem_model.specs.Signals.{module_of, module_alarm, lacks_module, module_done, module_failed, module_down, signalled}
 use Rattle.gem_model.specs.Step.{Outcome, answered, acts, settles, step_from}
 use Rattle.gem_model.specs.Run.{Run, entry_step, entry_after}
-use Rattle.history_laws.specs.Moved.{place_of, HasOpen, Moves, stays, is_registered, goes_with_carrier, is_lost, by_pick, by_place, EachMoves, if_open, open_number, ended_by, NeverEnds, EndsOnce}
-use Rattle.gem_model.proofs.Tests.{either_way, none_some}
+use Rattle.history_laws.specs.Moved.{place_of, Moves, stays, is_registered, goes_with_carrier, is_lost, by_pick, by_place, EachMoves, if_open, open_number, ended_by, NeverEnds, EndsOnce}
+use Rattle.gem_model.proofs.Tests.{either_way}
 use Rattle.floor_model.specs.Machines.{floor_least, floor_fired}
 use Rattle.history_laws.proofs.CommonRows.{input_common}
 use Rattle.history_laws.proofs.FloorFacts.{FloorChanges, FloorFact, fact_kept, listed_is, done_quiet, closing_quiet}
@@ -186,7 +185,7 @@ module _ (e : Event) (f : ToolFloor) where
   -- the operator's word
   lost_since : (sub : List ℕ) → event.Oper (oper.Lost sub) ≡ e → Since f → Since (listed (lost_rows sub f) f)
   lost_since sub event_is since =
-      let d = lost_listed sub f since.sound.base in
+      let d = lost_listed sub f since.sound in
       record {
         sound = lost_rows_sound sub f since.sound;
         given = let k = d.given in omega (arith, k);

@@ -1,6 +1,6 @@
 -- A control job that has completed, or is kept no more, stays so, whatever comes.
-use Rattle.std.proofs.Common.{◌≡◌, ◌⊎◌, ◌≤◌, ℕ, ◌+◌, ◌==◌, Bool, true, false, List, [], ◌∷◌, ◌++◌, Option, Some, None, map, not, inl, inr, refl, sym, ◌∙◌, ap, subst, arith}
-use Rattle.std.proofs.lemmas.Bool.{true≢false}
+use Rattle.std.proofs.Common.{◌≡◌, ◌⊎◌, ◌≤◌, ℕ, ◌+◌, ◌==◌, Bool, false, List, [], ◌∷◌, ◌++◌, Option, Some, None, map, not, inl, inr, refl, sym, ◌∙◌, ap, subst, arith}
+use Rattle.std.proofs.lemmas.Bool.{not-false}
 use Rattle.gem_tables.specs.Table.{row_of}
 use Rattle.gem_tables.specs.declared.firing.Firing.{Firing}
 use Rattle.gem_tables.proofs.Machines.{either_creates}
@@ -163,10 +163,7 @@ module _ (number : ℕ) where
   closed_left job c e = ap (λ x. not (is_completed x.state)) (states_left job c) ∙ e
 
   closed_row : (row : ℕ) (c : ControlJob) → is_open c ≡ false → is_open (fires_row row c) ≡ false
-  closed_row row c e = ap not (stays_completed row c.states (of (is_completed c.states.state) e)) where
-    of : (b : Bool) → not b ≡ false → b ≡ true
-    of true e = refl
-    of false e = absurd (true≢false e)
+  closed_row row c e = ap not (stays_completed row c.states (not-false (is_completed c.states.state) e))
 
   closed_at : (n row : ℕ) (c : ControlJob) → is_open c ≡ false → is_open (fires_at n row c) ≡ false
   closed_at n row c e = either_way (λ (x : ControlJob). is_open x ≡ false) (c.number == n) (fires_row row c) c (closed_row row c e) e

@@ -1,47 +1,40 @@
 -- Done of an open command takes one off what is owed, and the control job executes on.
 use Rattle.std.proofs.Common.{◌≡◌, ℕ, ◌+◌, ◌==◌, Bool, true, false, if◌then◌else◌, not, ◌&&◌, List, [], ◌∷◌, Option, Some, None, option_map, refl, sym, ◌∙◌, ap, subst, ◌⊎◌, inl, inr}
 use Rattle.std.proofs.lemmas.Bool.{true≢false, and_parts}
-use Rattle.std.proofs.lemmas.Bool.Decides.{Decides-eqb}
 use Rattle.gem_tables.specs.Table.{is_one_of, is_among, firing, after}
 use Rattle.gem_tables.proofs.Rows.{one_of_cases}
 use Rattle.gem_ids.specs.declared.numbers.LocId.{LocId}
-use Rattle.gem_ids.specs.declared.numbers.LocId.TheVariants.{Slot, Aligner, Arm, Chamber}
+use Rattle.gem_ids.specs.declared.numbers.LocId.TheVariants.{Arm}
 use Rattle.tool_tasks.specs.declared.task.Command.{Command as ToolCommand}
 use Rattle.tool_tasks.specs.declared.task.Task.{Task as ToolTask}
 use Rattle.tool_tasks.specs.declared.task.Task.TheVariants as task
 use Rattle.robot_moves.specs.declared.module.Module.{Module as ToolModule}
 use Rattle.robot_moves.specs.declared.module.Module.TheVariants.{Busy}
 use Rattle.robot_moves.specs.Modules.{module_at, change_module}
-use Rattle.substrate.specs.Locations.{is_location}
-use Rattle.substrate.specs.Places.{PlaceMap, substrate_named, moved as moved_to}
+use Rattle.substrate.specs.Places.{PlaceMap, moved as moved_to}
 use Rattle.substrate.specs.Tables.{processing_number, processing_table}
 use Rattle.substrate.specs.declared.record.Processing.{Processing}
 use Rattle.substrate.specs.declared.record.Processing.TheVariants as processing
 use Rattle.substrate.specs.declared.registered.Registered.{Registered}
-use Rattle.process_job.specs.Jobs.{job_numbered}
-use Rattle.process_job.specs.declared.job.ProcessJob.{ProcessJob}
 use Rattle.floor_model.specs.declared.tracked.Substrate.{Substrate}
 use Rattle.floor_model.specs.Floor.{ToolFloor, substrate_numbered, with_module, change_numbered}
-use Rattle.floor_model.specs.Jobs.{can_join}
-use Rattle.floor_model.specs.Modules.{module_behind, open_task, transferred, aligned, aligned_numbered, aligned_by}
+use Rattle.floor_model.specs.Modules.{module_behind, open_task, aligned, aligned_numbered, aligned_by}
 use Rattle.floor_model.specs.Signals.{done_row}
 use Rattle.floor_model.specs.Machines.{substrate_starts, with_moved, floor_starts, floor_fired}
 use Rattle.floor_moves.specs.Floor as law
-use Rattle.floor_moves.specs.Floor.{Loc, Command, arm, aligner, pick, place, align, busy, idle, is_done}
+use Rattle.floor_moves.specs.Floor.{Loc, Command, aligner, pick, place, align, busy, idle, is_done}
 use Rattle.floor_moves.specs.Effects.{moved, aligned as aligned_by_numbers, turned, worked}
 use Rattle.floor_moves.specs.Agree.{Agree}
-use Rattle.floor_moves.specs.Valid.{PlaceStands, Valid}
+use Rattle.floor_moves.specs.Valid.{Valid}
 use Rattle.floor_moves.proofs.Facts.{outside_not_done, picked_not_done}
-use Rattle.floor_moves.proofs.Done.{done_pick-keeps, done_place-keeps, done_align-keeps, but_finished}
+use Rattle.floor_moves.proofs.Done.{done_align-keeps, but_finished}
 use Rattle.floor_moves.proofs.Moving.{idle_not_busy}
 use Rattle.place_laws.specs.Picture.{picture, loc_of, numbered, task_of, of_one}
 use Rattle.place_laws.specs.Sound.{Sound, SoundBut}
 use Rattle.picture_laws.proofs.Columns.{says_same}
-use Rattle.picture_laws.proofs.Carried.{moving_agrees}
 use Rattle.picture_laws.proofs.Closing.{modules_behind, aligning_agrees}
-use Rattle.floor_laws.proofs.EndNames.{loc_one, named_place, number_there, named_kept}
+use Rattle.floor_laws.proofs.EndNames.{named_place, number_there, named_kept}
 use Rattle.floor_laws.proofs.EndOpen.{command_of, busy_at}
-use Rattle.floor_laws.proofs.EndPlaces.{goes_there, not_taken, chamber_inside, own_inside}
 use Rattle.owed_laws.specs.Owed.{owed_to}
 use Rattle.owed_laws.specs.Undisturbed.{Undisturbed, SubstratesStand}
 use Rattle.owed_laws.proofs.Columns.{OneLess}
@@ -49,8 +42,11 @@ use Rattle.owed_laws.proofs.Agreeing.{agree-undisturbed, agree-owed}
 use Rattle.owed_laws.proofs.Decreasing.{done_pick-falls, done_place-falls, done_align-falls, finished-falls}
 use Rattle.lot_laws.specs.Lot.{IsInJob, Waits, Executes}
 use Rattle.lot_laws.proofs.Standing.{on_base, undisturbed}
-use Rattle.lot_laws.proofs.Substrates.{found_back}
+use Rattle.lot_laws.proofs.Substrates.{change-executes}
 use Rattle.lot_laws.proofs.Done.{state_behind, worked-executes, worked_owed}
+use Rattle.floor_laws.proofs.EndBut.{is_running}
+use Rattle.floor_laws.proofs.EndMoves.{Written, behind, pick_written, place_written}
+use Rattle.floor_moves.proofs.Maps.{set_else}
 
 module _ (number : ℕ) (counted : ℕ → Bool) (f : ToolFloor) (e : Executes number counted f) where
   -- it executes on where no more than places and modules change, who is done stays so, and the substrates stand
@@ -82,104 +78,43 @@ module _ (number : ℕ) (counted : ℕ → Bool) (f : ToolFloor) (sound : Sound 
 
   -- ---- Done of Pick and of Place
 
-  abbrev behind : PlaceMap → ToolFloor
-  behind p = with_module m (module_behind 5) (record f { places = p })
-
-  fired_is : (t : ToolTask) → c.task ≡ t → (p : PlaceMap) → transferred (Some t) f.places ≡ p → Falls (behind p) → Falls (floor_fired (firing 16 m 5) f)
-  fired_is t q p g s =
-      subst (λ (o : Option ToolModule). Falls (behind (transferred (open_task o) f.places))) (sym here)
-      (subst (λ (x : ToolTask). Falls (behind (transferred (Some x) f.places))) (sym q) (subst (λ (x : PlaceMap). Falls (behind x)) (sym g) s))
-
-  moves_on : (sub : List ℕ) (to : LocId) (r : Registered) → substrate_named sub f.places.held ≡ Some r → is_done (numbered sub f.places) (picture f) ≡ false
-      → Valid (moved (numbered sub f.places) (loc_of to) m (picture f)) → OneLess counted (picture f) (moved (numbered sub f.places) (loc_of to) m (picture f)) → Falls (behind (record f.places { held = moved_to sub to f.places.held }))
-  moves_on sub to r named left valid less =
-      let its = number_there f.places sub r named in
-      at (subst (λ (n : ℕ). is_done n (picture f) ≡ false) its left) (subst (λ (n : ℕ). Valid (moved n (loc_of to) m (picture f))) its valid) (subst (λ (n : ℕ). OneLess counted (picture f) (moved n (loc_of to) m (picture f))) its less)
-    where
-      agrees : Agree (moved r.number (loc_of to) m (picture f)) (picture (behind (record f.places { held = moved_to sub to f.places.held })))
-      agrees = moving_agrees m (module_behind 5) (Busy c fetched) sub to r f sound.base.places named here refl
-
-      at : is_done r.number (picture f) ≡ false → Valid (moved r.number (loc_of to) m (picture f)) → OneLess counted (picture f) (moved r.number (loc_of to) m (picture f)) → Falls (behind (record f.places { held = moved_to sub to f.places.held }))
-      at left valid less = (
-        places-executes number counted f e (record f.places { held = moved_to sub to f.places.held }) (change_module m (module_behind 5) f.modules) done
-            (agree-undisturbed (moved r.number (loc_of to) m (picture f)) (picture (behind (record f.places { held = moved_to sub to f.places.held }))) agrees counted valid less.0).substrates,
-        ap (λ (k : ℕ). k + 1) (agree-owed (moved r.number (loc_of to) m (picture f)) (picture (behind (record f.places { held = moved_to sub to f.places.held }))) agrees counted) ∙ less.1,
-      ) where
-        done : (k : ℕ) → is_done k (picture f) ≡ true → is_done k (picture (behind (record f.places { held = moved_to sub to f.places.held }))) ≡ true
-        done k is = ap (λ (l : Option Loc). law.is_finished ((picture f).processing k) && not (law.is_outside l)) (agrees.place_of k ∙ of (k == r.number) refl) ∙ is where
-          of : (b : Bool) → (k == r.number) ≡ b → (if b then Some (loc_of to) else (picture f).place_of k) ≡ (picture f).place_of k
-          of false q = refl
-          of true q = absurd (true≢false (sym is ∙ ap (λ (i : ℕ). is_done i (picture f)) ((Decides-eqb k r.number).0 q) ∙ left))
+  transfer-falls : (sub : List ℕ) (from to : LocId) → Written f sound m c fetched here sub from to → is_done (numbered sub f.places) (picture f) ≡ false → OneLess counted (picture f) (moved (numbered sub f.places) (loc_of to) m (picture f)) → Falls (floor_fired (firing 16 m 5) f)
+  transfer-falls sub from to w left less = subst Falls (sym w.fires) (
+    places-executes number counted f e (record f.places { held = moved_to sub to f.places.held }) (change_module m (module_behind 5) f.modules) done (agree-undisturbed _ _ w.agrees counted w.valid less.0).substrates,
+    ap (λ (k : ℕ). k + 1) (agree-owed _ _ w.agrees counted) ∙ less.1,
+  ) where
+    done : (k : ℕ) → is_done k (picture f) ≡ true → is_done k (picture (behind f sound m c fetched here (record f.places { held = moved_to sub to f.places.held }))) ≡ true
+    done k is = ap (λ (l : Option Loc). law.is_finished ((picture f).processing k) && not (law.is_outside l)) (w.agrees.place_of k ∙ set_else (numbered sub f.places) k (Some (loc_of to)) (picture f).place_of apart) ∙ is where
+      apart : k ≡ numbered sub f.places → ⊥
+      apart same = true≢false (sym is ∙ ap (λ (i : ℕ). is_done i (picture f)) same ∙ left)
 
   pub pick-falls : (sub : List ℕ) (from : LocId) → c.task ≡ task.Pick sub from → Falls (floor_fired (firing 16 m 5) f)
   pick-falls sub from q =
       let t : task_of c.task f.places ≡ pick (numbered sub f.places) (loc_of from) = ap (λ (x : ToolTask). task_of x f.places) q in
       let s = sound.valid.commands.picks m (numbered sub f.places) (loc_of from) (command_of c f.places) is_busy t in
-      let at = named_place f.places sound.base.places sub (loc_of from) s.stands in
-      let free = not_taken f sound.base Arm s.free in
-      fired_is (task.Pick sub from) q (record f.places { held = moved_to sub Arm f.places.held })
-      (goes_there sub Arm from f.places at.0 sound.base.places at.1 (loc_one at.0.at from at.2) refl free)
-      (moves_on sub Arm at.0 at.1 (picked_not_done (picture f) m (numbered sub f.places) (loc_of from) s) (done_pick-keeps (picture f) m (numbered sub f.places) (loc_of from) (command_of c f.places) is_busy t sound.valid)
-      (done_pick-falls counted (picture f) sound.valid u m (numbered sub f.places) (loc_of from) (command_of c f.places) is_busy t))
-
-  -- the end of a Place is one of the tool's places
-  end_inside : (n : ℕ) (to : LocId) → PlaceStands m n (loc_of to) (picture f) → is_location f.places.ports f.places.chambers to ≡ true
-  end_inside n (Slot p k) s = own_inside f sound.base n (sound.valid.places.kept n arm s.stands) p k (s.to_slot p.0 k.0 refl).0
-  end_inside n Aligner s = refl
-  end_inside n Arm s = refl
-  end_inside n (Chamber d) s = chamber_inside f.places.ports f.places.chambers d (s.to_chamber d refl).0
+      transfer-falls sub from Arm (pick_written f sound m c fetched here sub from q) (picked_not_done (picture f) m (numbered sub f.places) (loc_of from) s)
+      (done_pick-falls counted (picture f) sound.valid u m (numbered sub f.places) (loc_of from) (command_of c f.places) is_busy t)
 
   pub place-falls : (sub : List ℕ) (to : LocId) → c.task ≡ task.Place sub to → Falls (floor_fired (firing 16 m 5) f)
   place-falls sub to q =
       let t : task_of c.task f.places ≡ place (numbered sub f.places) (loc_of to) = ap (λ (x : ToolTask). task_of x f.places) q in
       let s = sound.valid.commands.places m (numbered sub f.places) (loc_of to) (command_of c f.places) is_busy t in
-      let at = named_place f.places sound.base.places sub arm s.stands in
-      let free = not_taken f sound.base to s.free in
-      fired_is (task.Place sub to) q (record f.places { held = moved_to sub to f.places.held })
-      (goes_there sub to Arm f.places at.0 sound.base.places at.1 (loc_one at.0.at Arm at.2) (end_inside (numbered sub f.places) to s) free)
-      (moves_on sub to at.0 at.1 (outside_not_done (picture f) (numbered sub f.places) (ap law.is_outside s.stands)) (done_place-keeps (picture f) m (numbered sub f.places) (loc_of to) (command_of c f.places) is_busy t sound.valid)
-      (done_place-falls counted (picture f) sound.valid u m (numbered sub f.places) (loc_of to) (command_of c f.places) is_busy t))
+      transfer-falls sub Arm to (place_written f sound m c fetched here sub to q) (outside_not_done (picture f) (numbered sub f.places) (ap law.is_outside s.stands))
+      (done_place-falls counted (picture f) sound.valid u m (numbered sub f.places) (loc_of to) (command_of c f.places) is_busy t)
 
   -- ---- Done of Align
 
   aligned-executes : (n : ℕ) (s : Substrate) → substrate_numbered n f.substrates ≡ Some s → Valid (aligned_by_numbers n m (picture f)) → OneLess counted (picture f) (aligned_by_numbers n m (picture f))
       → Falls (with_module m (module_behind 6) (record f { substrates = change_numbered n aligned f.substrates }))
   aligned-executes n s found valid less = (
-    record {
-      steers = e.steers;
-      here = e.here;
-      members = λ k is. e.members k (sym (agrees.jobs.is_member k) ∙ is);
-      stands = λ k y there is. let x = found_back n aligned (λ s. refl) k f.substrates y there in stands k y x.0 x.2 (e.stands k x.0 x.1 is);
-      all = λ k i y j there q left can. let x = found_back n aligned (λ s. refl) k f.substrates y there in e.all k i x.0 j x.1 q left (takes k y x.0 j x.2 can);
-      substrates = (agree-undisturbed (aligned_by_numbers n m (picture f)) (picture (with_module m (module_behind 6) (record f { substrates = change_numbered n aligned f.substrates }))) agrees counted valid less.0).substrates;
-    },
-    ap (λ (k : ℕ). k + 1) (agree-owed (aligned_by_numbers n m (picture f)) (picture (with_module m (module_behind 6) (record f { substrates = change_numbered n aligned f.substrates }))) agrees counted) ∙ less.1,
+    change-executes number counted f e n aligned (λ x. refl) (λ x. refl) (change_module m (module_behind 6) f.modules) agrees.jobs.is_member (λ k kept is. done k ∙ is) (λ x there w. w.joins) (λ j x can. can) (agree-undisturbed _ _ agrees counted valid less.0).substrates,
+    ap (λ (k : ℕ). k + 1) (agree-owed _ _ agrees counted) ∙ less.1,
   ) where
     agrees : Agree (aligned_by_numbers n m (picture f)) (picture (with_module m (module_behind 6) (record f { substrates = change_numbered n aligned f.substrates })))
     agrees = aligning_agrees m (module_behind 6) (Busy c fetched) idle f n s found here refl
 
-    done_same : (k : ℕ) → is_done k (picture (with_module m (module_behind 6) (record f { substrates = change_numbered n aligned f.substrates }))) ≡ is_done k (picture f)
-    done_same k = ap (λ (p : ℕ). law.is_finished p && not (law.is_outside ((picture f).place_of k))) (says_same n aligned (λ s. refl) 0 (λ (s : Substrate). processing_number s.states.processing) (λ s. refl) k f.substrates)
-
-    Case : ℕ → Substrate → Substrate → Type 0
-    Case k y x = ((k ≡ n) × (y ≡ aligned x)) ⊎ (((k == n) ≡ false) × (y ≡ x))
-
-    job_same : (k : ℕ) (y x : Substrate) → Case k y x → y.job ≡ x.job
-    job_same k y x (inl q) = ap (λ (z : Substrate). z.job) q.1
-    job_same k y x (inr q) = ap (λ (z : Substrate). z.job) q.1
-
-    can_same : (k : ℕ) (y x : Substrate) (j : ProcessJob) → Case k y x → can_join j f.shop y ≡ can_join j f.shop x
-    can_same k y x j (inl q) = ap (can_join j f.shop) q.1
-    can_same k y x j (inr q) = ap (can_join j f.shop) q.1
-
-    takes : (k : ℕ) (y x : Substrate) (j : ProcessJob) → Case k y x → can_join j f.shop y ≡ true → can_join j f.shop x ≡ true
-    takes k y x j q can = sym (can_same k y x j q) ∙ can
-
-    stands : (k : ℕ) (y x : Substrate) → Case k y x → (is_done k (picture f) ≡ true) ⊎ (IsInJob x f ⊎ Waits number x f)
-        → (is_done k (picture (with_module m (module_behind 6) (record f { substrates = change_numbered n aligned f.substrates }))) ≡ true) ⊎ (IsInJob y (with_module m (module_behind 6) (record f { substrates = change_numbered n aligned f.substrates })) ⊎ Waits number y (with_module m (module_behind 6) (record f { substrates = change_numbered n aligned f.substrates })))
-    stands k y x q (inl done) = inl (done_same k ∙ done)
-    stands k y x q (inr (inl its)) = inr (inl (its.0, ap (λ (i : ℕ). job_numbered i f.jobs.process.kept) (job_same k y x q) ∙ its.1))
-    stands k y x q (inr (inr w)) = inr (inr (record { at = w.at; job = w.job; kept = w.kept; left = w.left; queued = w.queued; joins = can_same k y x w.job q ∙ w.joins }))
+    done : (k : ℕ) → is_done k (picture (with_module m (module_behind 6) (record f { substrates = change_numbered n aligned f.substrates }))) ≡ is_done k (picture f)
+    done k = ap (λ (p : ℕ). law.is_finished p && not (law.is_outside ((picture f).place_of k))) (says_same n aligned (λ s. refl) 0 (λ (s : Substrate). processing_number s.states.processing) (λ s. refl) k f.substrates)
 
   pub align-falls : (sub : List ℕ) → c.task ≡ task.Align sub → Falls (floor_fired (firing 16 m 6) f)
   align-falls sub q =
@@ -230,16 +165,6 @@ module _ (number : ℕ) (counted : ℕ → Bool) (f : ToolFloor) (sound : Sound 
       of false q r = e.substrates.to_chamber k n d x r t
 
 -- ---- its second row, of the substrate
-
-is_running : (p : Processing) → is_among processing_number (processing.InProcess ∷ []) p ≡ true → p ≡ processing.InProcess
-is_running processing.InProcess q = refl
-is_running processing.NeedsProcessing q = absurd (cc)
-is_running processing.Processed q = absurd (cc)
-is_running processing.Aborted q = absurd (cc)
-is_running processing.Stopped q = absurd (cc)
-is_running processing.Rejected q = absurd (cc)
-is_running processing.Lost q = absurd (cc)
-is_running processing.Skipped q = absurd (cc)
 
 module _ (number : ℕ) (counted : ℕ → Bool) (f : ToolFloor) (e : Executes number counted f) (n : ℕ) (but : SoundBut n f) where
   -- row 3 or 4 of table 13 of a substrate in a chamber, that is in a job, with no open command any more

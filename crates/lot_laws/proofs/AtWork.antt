@@ -22,11 +22,7 @@ going_whole state.Queued g = refl
 going_whole state.SettingUp g = refl
 going_whole state.Processing g = refl
 going_whole state.Complete g = refl
-going_whole state.WaitingForStart g = absurd (true≢false (sym g))
-going_whole state.Pausing g = absurd (true≢false (sym g))
-going_whole state.Paused g = absurd (true≢false (sym g))
-going_whole state.Stopping g = absurd (true≢false (sym g))
-going_whole state.Aborting g = absurd (true≢false (sym g))
+going_whole _ g = absurd (true≢false (sym g))
 
 -- one that is EXECUTING is at work
 pub executing_works : (o : Option ControlJob) → is_executing o ≡ true → is_under_way o ≡ true

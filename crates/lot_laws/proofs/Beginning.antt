@@ -38,13 +38,7 @@ use Rattle.lot_laws.proofs.Standing.{on_base, not_so, Joins, joins_tell, member_
 
 needing_number : (p : Processing) → is_needing p ≡ true → processing_number p ≡ 0
 needing_number processing.NeedsProcessing e = refl
-needing_number processing.InProcess e = absurd (true≢false (sym e))
-needing_number processing.Processed e = absurd (true≢false (sym e))
-needing_number processing.Aborted e = absurd (true≢false (sym e))
-needing_number processing.Stopped e = absurd (true≢false (sym e))
-needing_number processing.Rejected e = absurd (true≢false (sym e))
-needing_number processing.Lost e = absurd (true≢false (sym e))
-needing_number processing.Skipped e = absurd (true≢false (sym e))
+needing_number _ e = absurd (true≢false (sym e))
 
 module _ (number row : ℕ) (f : ToolFloor) (h : Sound f) (t : AreTogether f.jobs) (s : AreStarted f.jobs) (unaligned : AreUnaligned (picture f)) (kept : AreInKeptJobs f)
     (c : ControlJob) (at : control_numbered number f.jobs.control.jobs ≡ Some c) (starts : control_starts row (Some c) (is_first_here number f) f.jobs ≡ true) (its_row : is_one_of (4 ∷ 5 ∷ []) row ≡ true)

@@ -29,17 +29,13 @@ use Rattle.lot_laws.proofs.Failing.{fetched-works}
 use Rattle.lot_laws.proofs.Removing.{removed-works}
 use Rattle.lot_laws.proofs.Shopping.{row-works, written-works, cancelled-works, unbinding-works, placing-works, vacated-works}
 use Rattle.lot_laws.proofs.Works.{WorksOn}
+use Rattle.std.proofs.Math.Bool.{or-false}
 
 -- ---- rows that inputs fire alone
 
 -- of the load ports, the carriers and the locations, one by which a slot map is VERIFIED, or `up`
 abbrev Kind : Firing → Type 0
 Kind x = (is_shop_row x ≡ true) ⊎ ((is_registration x ≡ true) ⊎ (((x.row.table == 16) && (x.row.row == 10)) ≡ true))
-
--- the one that is left
-or_none : (b : Bool) → (b || false) ≡ true → b ≡ true
-or_none true e = refl
-or_none false e = e
 
 slots : (carrier row : ℕ) → Kind (firing 9 carrier row)
 slots carrier row = of (reaches_verified row) refl where
@@ -63,7 +59,7 @@ kind number counted before f x starts common leaves =
               (
                 (λ s c l. slots x.object x.row.row),
                 (
-                  (λ s c l. inl (or_none (not (x.row.row == 4)) c)),
+                  (λ s c l. inl (sym (or-false (not (x.row.row == 4))) ∙ c)),
                   (
                     (λ s c l. inl refl),
                     (

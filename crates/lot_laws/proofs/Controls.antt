@@ -2,7 +2,7 @@
 use Rattle.std.proofs.Common.{◌≡◌, ◌≤◌, ℕ, ◌+◌, ◌==◌, Bool, true, false, cond, not, ◌&&◌, ◌||◌, List, [], ◌∷◌, Option, Some, None, option_map, bytes_eq, refl, sym, ◌∙◌, ap, subst, ◌⊎◌, inl, inr, arith}
 use Rattle.std.specs.List.{AllByRecursion, list_all}
 use Rattle.std.specs.Option.{option_or}
-use Rattle.std.proofs.lemmas.Bool.{true≢false, and_parts}
+use Rattle.std.proofs.lemmas.Bool.{true≢false, and_parts, or_right}
 use Rattle.std.proofs.lemmas.Bool.Decides.{Decides-eqb}
 use Rattle.gem_tables.specs.Table.{is_one_of, firing, first_itself}
 use Rattle.gem_tables.specs.Machine.{Machine, first_ready, least_in}
@@ -20,10 +20,7 @@ use Rattle.control_job.specs.Tables.{state_number, states_number}
 use Rattle.control_job.specs.Names.{is_in}
 use Rattle.control_job.specs.Jobs.{job_numbered as control_numbered, owns, is_open, fired_at}
 use Rattle.control_job.specs.declared.job.ControlJob.{ControlJob}
-use Rattle.control_job.specs.declared.record.ControlState.{ControlState}
-use Rattle.control_job.specs.declared.record.ControlState.TheVariants.{Queued, Selected, WaitingForStart, Executing, Paused, Completed}
-use Rattle.control_job.specs.declared.record.Ending.{Ending}
-use Rattle.control_job.specs.declared.record.Ending.TheVariants.{No, ByStop, ByAbort}
+use Rattle.control_job.specs.declared.record.ControlState.TheVariants.{Queued}
 use Rattle.control_job.specs.declared.record.ControlJobRecord.{ControlJobRecord}
 use Rattle.control_job.proofs.Called.{numbered_in}
 use Rattle.tool_jobs.specs.Jobs.{owner}
@@ -48,7 +45,7 @@ use Rattle.owed_laws.specs.Owed.{owed_to}
 use Rattle.owed_laws.proofs.Beginning.{nothing_left, each_done}
 use Rattle.queue_laws.specs.Started.{is_left_in, AreStarted}
 use Rattle.queue_laws.specs.Steers.{has_none_left, goes_on, disturbs_control, is_completion}
-use Rattle.queue_laws.proofs.Rows.{active_open, executed}
+use Rattle.queue_laws.proofs.Rows.{active_open, executed, by_executing}
 use Rattle.queue_laws.proofs.Owners.{owner_is, none_owned}
 use Rattle.queue_laws.proofs.Steering.{Found, found_executing, left_owned, owned_left, control-steers, control_left, completes, left_kept}
 use Rattle.lot_laws.specs.Lot.{IsInJob, Waits, Executes}
@@ -130,34 +127,11 @@ module _ (finds : JobWant → Bool) where
   goes_ready state.SettingUp g first hand auto settled more none = none_some 4 (sym none ∙ ready_set_up hand auto)
   goes_ready state.Processing g first hand auto settled more none = none_some 6 (sym none ∙ ready_processing (settled refl))
   goes_ready state.Complete g first hand auto settled more none = none_some 7 (sym none ∙ ready_complete more)
-  goes_ready state.WaitingForStart g first hand auto settled more none = absurd (true≢false (sym g))
-  goes_ready state.Pausing g first hand auto settled more none = absurd (true≢false (sym g))
-  goes_ready state.Paused g first hand auto settled more none = absurd (true≢false (sym g))
-  goes_ready state.Stopping g first hand auto settled more none = absurd (true≢false (sym g))
-  goes_ready state.Aborting g first hand auto settled more none = absurd (true≢false (sym g))
+  goes_ready _ g first hand auto settled more none = absurd (true≢false (sym g))
 
 -- EXECUTING and not ending, as its rows read it
 three_reads : (s : ControlJobRecord) → (states_number s == 3) ≡ true → ((state_number s.state == 3) && not (is_ending s.ending)) ≡ true
-three_reads s e = of s.state s.ending e where
-  of : (a : ControlState) (b : Ending) → (states_number (record { state = a; ending = b }) == 3) ≡ true → ((state_number a == 3) && not (is_ending b)) ≡ true
-  of Executing No t = refl
-  of Executing ByStop t = absurd (true≢false (sym t))
-  of Executing ByAbort t = absurd (true≢false (sym t))
-  of Paused No t = absurd (true≢false (sym t))
-  of Paused ByStop t = absurd (true≢false (sym t))
-  of Paused ByAbort t = absurd (true≢false (sym t))
-  of Queued No t = absurd (true≢false (sym t))
-  of Queued ByStop t = absurd (true≢false (sym t))
-  of Queued ByAbort t = absurd (true≢false (sym t))
-  of Selected No t = absurd (true≢false (sym t))
-  of Selected ByStop t = absurd (true≢false (sym t))
-  of Selected ByAbort t = absurd (true≢false (sym t))
-  of WaitingForStart No t = absurd (true≢false (sym t))
-  of WaitingForStart ByStop t = absurd (true≢false (sym t))
-  of WaitingForStart ByAbort t = absurd (true≢false (sym t))
-  of Completed No t = absurd (true≢false (sym t))
-  of Completed ByStop t = absurd (true≢false (sym t))
-  of Completed ByAbort t = absurd (true≢false (sym t))
+three_reads s e = by_executing (λ (x : ControlJobRecord). ((state_number x.state == 3) && not (is_ending x.ending)) ≡ true) refl s e
 
 module _ (number : ℕ) (counted : ℕ → Bool) (f : ToolFloor) (h : Sound f) (t : AreTogether f.jobs) (s : AreStarted f.jobs) (e : Executes number counted f) where
   -- ---- rows that leave it as it is
@@ -205,16 +179,10 @@ module _ (number : ℕ) (counted : ℕ → Bool) (f : ToolFloor) (h : Sound f) (
         or_first true b q = refl
         or_first false b q = absurd (true≢false (sym q))
 
-        or_second : (a b : Bool) → b ≡ true → (a || b) ≡ true
-        or_second true b q = refl
-        or_second false b q = q
-
         at : (l : Option Loc) → (picture f).place_of k ≡ l → not (law.is_outside l) ≡ true → (is_in_slot x f.places || is_removed x f.places) ≡ true
-        at None q g = or_second (is_in_slot x f.places) (is_removed x f.places) (removed_from f h.base k x found q)
+        at None q g = or_right (is_in_slot x f.places) (is_removed x f.places) (removed_from f h.base k x found q)
         at (Some (law.slot p i)) q g = or_first (is_in_slot x f.places) (is_removed x f.places) (in_slot_from f h.base k x found (q ∙ ap (λ (l : Loc). Some l) (h.valid.places.home k p i q)))
-        at (Some law.aligner) q g = absurd (true≢false (sym g))
-        at (Some law.arm) q g = absurd (true≢false (sym g))
-        at (Some (law.chamber i)) q g = absurd (true≢false (sym g))
+        at _ q g = absurd (true≢false (sym g))
 
     each : (k : ℕ) (x : Substrate) → substrate_numbered k f.substrates ≡ Some x → is_done_with j.number f.places x ≡ true
     each k x found = of (is_member j.number x) refl where

@@ -67,13 +67,7 @@ use Rattle.lot_laws.proofs.Going.{processing_same}
 stays_broken : (row : ℕ) (s : JobState) → breaks_off s ≡ true → breaks_off (after job_number job_table row s) ≡ true
 stays_broken row state.Stopping e = after_meets job_number breaks_off (λ n. false) row state.Stopping job_table refl refl refl
 stays_broken row state.Aborting e = after_meets job_number breaks_off (λ n. false) row state.Aborting job_table refl refl refl
-stays_broken row state.Queued e = absurd (true≢false (sym e))
-stays_broken row state.SettingUp e = absurd (true≢false (sym e))
-stays_broken row state.WaitingForStart e = absurd (true≢false (sym e))
-stays_broken row state.Processing e = absurd (true≢false (sym e))
-stays_broken row state.Complete e = absurd (true≢false (sym e))
-stays_broken row state.Pausing e = absurd (true≢false (sym e))
-stays_broken row state.Paused e = absurd (true≢false (sym e))
+stays_broken row _ e = absurd (true≢false (sym e))
 
 -- what is so of the two that are EXECUTING and ending is so of one of them
 by_ending : (P : ControlJobRecord → Type 0) → P (record { state = Executing; ending = ByStop }) → P (record { state = Executing; ending = ByAbort }) → (s : ControlJobRecord)

@@ -1,6 +1,6 @@
 -- Done of an open command takes one off what is owed, and the control job executes on.
-use Rattle.std.proofs.Common.{◌≡◌, ℕ, ◌==◌, Bool, true, false, if◌then◌else◌, not, ◌&&◌, map, Some, refl, sym, ◌∙◌, ap, subst, ◌⊎◌, inl, inr}
-use Rattle.std.proofs.lemmas.Bool.{true≢false}
+use Rattle.std.proofs.Common.{◌≡◌, ℕ, ◌==◌, Bool, true, false, if◌then◌else◌, not, ◌&&◌, map, Some, refl, sym, ◌∙◌, ap, subst, ◌⊎◌}
+use Rattle.std.proofs.lemmas.Bool.{true≢false, and_parts}
 use Rattle.std.proofs.lemmas.Bool.Decides.{Decides-eqb}
 use Rattle.gem_tables.specs.Table.{is_one_of, after}
 use Rattle.gem_tables.proofs.Rows.{both}
@@ -13,7 +13,7 @@ use Rattle.process_job.specs.declared.job.ProcessJob.{ProcessJob}
 use Rattle.tool_jobs.proofs.Rows.{after_meets}
 use Rattle.floor_model.specs.declared.tracked.Substrate.{Substrate}
 use Rattle.floor_model.specs.Floor.{ToolFloor, substrate_numbered, number_of}
-use Rattle.floor_model.specs.Jobs.{job_of, can_join}
+use Rattle.floor_model.specs.Jobs.{can_join}
 use Rattle.floor_model.specs.Machines.{substrate_moves, with_moved}
 use Rattle.floor_moves.specs.Floor as law
 use Rattle.floor_moves.specs.Floor.{is_done}
@@ -22,7 +22,6 @@ use Rattle.floor_moves.specs.Agree.{Agree}
 use Rattle.floor_moves.specs.Valid.{Valid}
 use Rattle.place_laws.specs.Picture.{picture}
 use Rattle.place_laws.specs.Sound.{Base}
-use Rattle.place_laws.proofs.Holding.{found_among}
 use Rattle.picture_laws.proofs.Rows.{processing_agrees}
 use Rattle.floor_laws.proofs.JobSight.{none_some, some_same}
 use Rattle.floor_laws.proofs.JobLists.{none_first}
@@ -30,10 +29,9 @@ use Rattle.floor_laws.proofs.JobSays.{member_tells}
 use Rattle.owed_laws.specs.Owed.{owed_to}
 use Rattle.owed_laws.specs.Undisturbed.{Undisturbed}
 use Rattle.owed_laws.proofs.Agreeing.{agree-undisturbed, agree-owed}
-use Rattle.queue_laws.specs.Started.{is_left_in}
-use Rattle.lot_laws.specs.Lot.{is_in_named_slot, IsInJob, Waits, Executes}
+use Rattle.lot_laws.specs.Lot.{is_in_named_slot, Waits, Executes}
 use Rattle.lot_laws.proofs.Standing.{joins_tell}
-use Rattle.lot_laws.proofs.Substrates.{found_back}
+use Rattle.lot_laws.proofs.Substrates.{change-executes}
 
 -- the number of the state of processing behind a row
 abbrev pub state_behind : ℕ → Substrate → ℕ
@@ -74,45 +72,23 @@ module _ (number : ℕ) (counted : ℕ → Bool) (f : ToolFloor) (b : Base f) (e
       pub worked_owed : owed_to counted (picture (with_moved 13 row n f)) ≡ owed_to counted (worked n (state_behind row s) (picture f))
       worked_owed = agree-owed (worked n (state_behind row s) (picture f)) (picture (with_moved 13 row n f)) agrees counted
 
-      abbrev Case : ℕ → Substrate → Substrate → Type 0
-      Case k y x = ((k ≡ n) × (y ≡ substrate_moves 13 row x)) ⊎ (((k == n) ≡ false) × (y ≡ x))
-
-      first_so : (a c : Bool) → (a && c) ≡ true → a ≡ true
-      first_so true c q = refl
-      first_so false c q = q
-
       -- one that is done stays so, and isn't the one of the row
       done_on : (k : ℕ) → is_one_of (map number_of f.substrates) k ≡ true → is_done k (picture f) ≡ true → is_done k (picture (with_moved 13 row n f)) ≡ true
       done_on k kept done = ap (λ (p : ℕ). law.is_finished p && not (law.is_outside ((picture f).place_of k))) (agrees.processing k kept ∙ of (k == n) refl) ∙ done where
         of : (c : Bool) → (k == n) ≡ c → (if c then state_behind row s else (picture f).processing k) ≡ (picture f).processing k
         of false q = refl
         of true q =
-            let finished = first_so (law.is_finished ((picture f).processing k)) (not (law.is_outside ((picture f).place_of k))) done in
+            let finished = (and_parts (law.is_finished ((picture f).processing k)) (not (law.is_outside ((picture f).place_of k))) done).0 in
             absurd (true≢false (sym finished ∙ ap (λ (i : ℕ). law.is_finished ((picture f).processing i)) ((Decides-eqb k n).0 q) ∙ unfinished))
 
-      stands : (k : ℕ) (y x : Substrate) → substrate_numbered k f.substrates ≡ Some x → Case k y x → (is_done k (picture f) ≡ true) ⊎ (IsInJob x f ⊎ Waits number x f)
-          → (is_done k (picture (with_moved 13 row n f)) ≡ true) ⊎ (IsInJob y (with_moved 13 row n f) ⊎ Waits number y (with_moved 13 row n f))
-      stands k y x found case (inl done) = inl (done_on k (found_among number_of k f.substrates x found) done)
-      stands k y x found (inl c) (inr (inl its)) = inr (inl (its.0, ap (λ (z : Substrate). job_of z f.jobs) c.1 ∙ its.1))
-      stands k y x found (inr c) (inr (inl its)) = inr (inl (its.0, ap (λ (z : Substrate). job_of z f.jobs) c.1 ∙ its.1))
-      stands k y x found (inl c) (inr (inr w)) = absurd (waits_free k x found w (subst (λ (i : ℕ). (picture f).jobs.is_member i ≡ true) (sym c.0) member))
-      stands k y x found (inr c) (inr (inr w)) = inr (inr (subst (λ (z : Substrate). Waits number z (with_moved 13 row n f)) (sym c.1) (record { at = w.at; job = w.job; kept = w.kept; left = w.left; queued = w.queued; joins = w.joins })))
-
-      takes : (k i : ℕ) (y : Substrate) (j : ProcessJob) (x : Substrate) → substrate_numbered k f.substrates ≡ Some x → Case k y x → job_numbered i f.jobs.process.kept ≡ Some j → is_left_in number j.id f.jobs ≡ true → can_join j f.shop y ≡ true → counted k ≡ true
-      takes k i y j x found (inr c) q left can = e.all k i x j found q left (subst (λ (z : Substrate). can_join j f.shop z ≡ true) c.1 can)
-      takes k i y j x found (inl c) q left can =
-          let tells = joins_tell j f (substrate_moves 13 row x) (subst (λ (z : Substrate). can_join j f.shop z ≡ true) c.1 can) in
-          e.all k i x j found q left
-          (both (is_at_source x.states.transport && is_needing x.states.processing) ((x.job == 0) && is_in_named_slot j f.shop x)
+      takes : (j : ProcessJob) (x : Substrate) → can_join j f.shop (substrate_moves 13 row x) ≡ true → can_join j f.shop x ≡ true
+      takes j x can =
+          let tells = joins_tell j f (substrate_moves 13 row x) can in
+          both (is_at_source x.states.transport && is_needing x.states.processing) ((x.job == 0) && is_in_named_slot j f.shop x)
           (both (is_at_source x.states.transport) (is_needing x.states.processing) tells.source (needing_before row x.states.processing tells.needs))
-          (both (x.job == 0) (is_in_named_slot j f.shop x) tells.free tells.named))
+          (both (x.job == 0) (is_in_named_slot j f.shop x) tells.free tells.named)
 
       pub worked-executes : Executes number counted (with_moved 13 row n f)
-      worked-executes = record {
-        steers = e.steers;
-        here = e.here;
-        members = λ k is. e.members k (sym (agrees.jobs.is_member k) ∙ is);
-        stands = λ k y found is. let c = found_back n (substrate_moves 13 row) (λ s. refl) k f.substrates y found in stands k y c.0 c.1 c.2 (e.stands k c.0 c.1 is);
-        all = λ k i y j found q left can. let c = found_back n (substrate_moves 13 row) (λ s. refl) k f.substrates y found in takes k i y j c.0 c.1 c.2 q left can;
-        substrates = (agree-undisturbed (worked n (state_behind row s) (picture f)) (picture (with_moved 13 row n f)) agrees counted valid stands_then).substrates;
-      }
+      worked-executes =
+          change-executes number counted f e n (substrate_moves 13 row) (λ x. refl) (λ x. refl) f.modules agrees.jobs.is_member done_on (λ x found w. absurd (waits_free n x found w member)) takes
+          (agree-undisturbed (worked n (state_behind row s) (picture f)) (picture (with_moved 13 row n f)) agrees counted valid stands_then).substrates

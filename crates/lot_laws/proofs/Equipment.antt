@@ -19,7 +19,7 @@ use Rattle.floor_model.specs.declared.tracked.Substrate.{Substrate}
 use Rattle.floor_model.specs.Floor.{ToolFloor, substrate_numbered, number_of}
 use Rattle.floor_model.specs.Modules.{number_named}
 use Rattle.floor_model.specs.Naming.{processes}
-use Rattle.floor_model.specs.Signals.{at_module, done_row, at_done, done_processed, done_processing, is_of_aborting, done_at, done_rows}
+use Rattle.floor_model.specs.Signals.{at_module, done_row, at_done, done_processed, done_processing, done_at, done_rows}
 use Rattle.floor_model.specs.Wants.{substrate_wants}
 use Rattle.floor_model.specs.Machines.{substrate_starts, substrate_ready, floor_machines, floor_starts, floor_fired, floor_least}
 use Rattle.floor_moves.specs.Floor as law
@@ -28,13 +28,14 @@ use Rattle.place_laws.specs.Picture.{picture, of_one, number_or_none, task_of}
 use Rattle.place_laws.specs.Sound.{Sound, SoundBut}
 use Rattle.place_laws.proofs.Holding.{one_found, found_among}
 use Rattle.floor_laws.specs.Rows.{one_listed, listed}
-use Rattle.floor_laws.proofs.EndAnswers.{idle_not, process_but}
+use Rattle.floor_laws.proofs.EndAnswers.{process_but}
 use Rattle.floor_laws.proofs.EndOpen.{command_of, busy_at, busy_processes}
-use Rattle.floor_laws.proofs.FloorInputs.{listed_starts, done_starts}
+use Rattle.floor_laws.proofs.FloorInputs.{listed_starts, done_starts, done_one}
 use Rattle.floor_laws.proofs.JobSight.{none_some}
 use Rattle.lot_laws.specs.Lot.{Executes, TakesOneOff}
 use Rattle.lot_laws.proofs.Answers.{done_moved-falls, closed-executes, processed-falls}
 use Rattle.lot_laws.proofs.Controls.{rest_none}
+use Rattle.floor_moves.proofs.Moving.{idle_not_busy}
 
 -- ---- what an open Process names is IN PROCESS where no row is ready
 
@@ -109,13 +110,6 @@ running_starts g n row s known running one =
       (ap (λ (o : Option Substrate). substrate_starts processing_number processing_table (λ x. x.processing) 4 o g) known ∙ ap (λ (p : Processing). (is_among processing_number (processing.InProcess ∷ []) p) && true) running, tt),
     ) one
 
--- the row behind a Process that is done is one of them
-processing_one : (n : ℕ) (f : ToolFloor) → is_one_of (3 ∷ 4 ∷ []) (done_processing n f) ≡ true
-processing_one n f = of (is_of_aborting (substrate_numbered n f.substrates) f) where
-  of : (b : Bool) → is_one_of (3 ∷ 4 ∷ []) (if b then 4 else 3) ≡ true
-  of true = refl
-  of false = refl
-
 -- ---- Done
 
 module _ (number : ℕ) (counted : ℕ → Bool) (f : ToolFloor) (sound : Sound f) (rest : floor_least f ≡ None) (e : Executes number counted f) (m : ℕ) where
@@ -132,7 +126,7 @@ module _ (number : ℕ) (counted : ℕ → Bool) (f : ToolFloor) (sound : Sound 
     processed sub recipe q n names but =
         let p = is_processed f sound rest m c fetched here sub recipe q n names in
         let row = done_processing n f in
-        let one = processing_one n f in
+        let one = done_one n f in
         let closed = closed-executes number counted f sound e m c fetched here in
         let starts = running_starts (floor_fired (firing 16 m 7) f) n row p.one p.known p.running one in
         let falls = processed-falls number counted (floor_fired (firing 16 m 7) f) closed.0 n but row p.chamber one starts p.at p.member in
@@ -145,7 +139,7 @@ module _ (number : ℕ) (counted : ℕ → Bool) (f : ToolFloor) (sound : Sound 
     by_task (task.Place sub to) q = alone (task.Place sub to) q (λ s r u. cc)
     by_task (task.Align sub) q = alone (task.Align sub) q (λ s r u. cc)
     by_task (task.Process sub recipe) q =
-        let w = process_but f sound m 7 c fetched here law.idle idle_not refl sub recipe q in
+        let w = process_but f sound m 7 c fetched here law.idle idle_not_busy refl sub recipe q in
         subst (λ (o : Option ℕ). TakesOneOff number counted f (listed (firing 16 m 7 ∷ at_done o f) f)) (sym w.1) (processed sub recipe q w.0 w.1 w.2)
 
   -- Done of the open command of a module

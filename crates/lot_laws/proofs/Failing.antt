@@ -16,7 +16,7 @@ use Rattle.robot_moves.specs.declared.module.ModuleState.TheVariants as state
 use Rattle.robot_moves.specs.Tables.{MoveRow, move_table, state_number}
 use Rattle.robot_moves.specs.Modules.{module_at, change_module, taken, state_of}
 use Rattle.substrate.specs.Tables.{processing_number, processing_table, not_lost}
-use Rattle.substrate.specs.Places.{substrate_named}
+use Rattle.substrate.specs.Places.{substrate_named, PlaceMap}
 use Rattle.substrate.specs.declared.record.Processing.{Processing}
 use Rattle.substrate.specs.declared.record.Processing.TheVariants as processing
 use Rattle.substrate.specs.declared.registered.Registered.{Registered}
@@ -83,22 +83,23 @@ pub turned-works : (number : ℕ) (counted : ℕ → Bool) {before : Jobs} (f : 
 turned-works number counted {before = before} f e m row one =
     subst (λ (g : ToolFloor). WorksOn number counted before f g) (sym (turns m row f one)) (modules-work number counted f e (change_module m (module_behind row) f.modules) (λ k c is. busy_back m row f k c is))
 
-pub fetched-works : (number : ℕ) (counted : ℕ → Bool) {before : Jobs} (f : ToolFloor) → AtWork number counted before f → (m : ℕ) → WorksOn number counted before f (fetched m f)
-fetched-works number counted f e m = modules-work number counted f e (change_module m taken f.modules) (λ k c is. sym (same k) ∙ is) where
-  same_taken : (o : Option ToolModule) → module_of (option_map taken o) f.places ≡ module_of o f.places
-  same_taken None = refl
-  same_taken (Some Idle) = refl
-  same_taken (Some (Busy c b)) = refl
-  same_taken (Some Down) = refl
+-- a command that is fetched is the same by numbers
+taken_same : (o : Option ToolModule) (p : PlaceMap) → module_of (option_map taken o) p ≡ module_of o p
+taken_same None p = refl
+taken_same (Some Idle) p = refl
+taken_same (Some (Busy c b)) p = refl
+taken_same (Some Down) p = refl
 
-  same : (k : ℕ) → module_of (module_at k (change_module m taken f.modules)) f.places ≡ module_of (module_at k f.modules) f.places
-  same k = of (k == m) refl where
-    of : (b : Bool) → (k == m) ≡ b → module_of (module_at k (change_module m taken f.modules)) f.places ≡ module_of (module_at k f.modules) f.places
-    of true q =
-        let is : m ≡ k = sym ((Decides-eqb k m).0 q) in
-        subst (λ (i : ℕ). module_of (module_at i (change_module m taken f.modules)) f.places ≡ module_of (module_at i f.modules) f.places) is
-        (ap (λ (o : Option ToolModule). module_of o f.places) (changed_there m taken f.modules) ∙ same_taken (module_at m f.modules))
-    of false q = ap (λ (o : Option ToolModule). module_of o f.places) (changed_else m k (λ is. true≢false (sym ((Decides-eqb k m).1 is) ∙ q)) taken f.modules)
+pub fetched_same : (f : ToolFloor) (m k : ℕ) → module_of (module_at k (change_module m taken f.modules)) f.places ≡ module_of (module_at k f.modules) f.places
+fetched_same f m k = of (k == m) refl where
+  of : (b : Bool) → (k == m) ≡ b → module_of (module_at k (change_module m taken f.modules)) f.places ≡ module_of (module_at k f.modules) f.places
+  of true q =
+      subst (λ (i : ℕ). module_of (module_at i (change_module m taken f.modules)) f.places ≡ module_of (module_at i f.modules) f.places) (sym ((Decides-eqb k m).0 q))
+      (ap (λ (o : Option ToolModule). module_of o f.places) (changed_there m taken f.modules) ∙ taken_same (module_at m f.modules) f.places)
+  of false q = ap (λ (o : Option ToolModule). module_of o f.places) (changed_else m k (λ is. true≢false (sym ((Decides-eqb k m).1 is) ∙ q)) taken f.modules)
+
+pub fetched-works : (number : ℕ) (counted : ℕ → Bool) {before : Jobs} (f : ToolFloor) → AtWork number counted before f → (m : ℕ) → WorksOn number counted before f (fetched m f)
+fetched-works number counted f e m = modules-work number counted f e (change_module m taken f.modules) (λ k c is. sym (fetched_same f m k) ∙ is)
 
 -- ---- its substrates stand as they do, or one has ended
 

@@ -21,18 +21,14 @@ use Rattle.floor_laws.proofs.JobSight.{none_some, some_same}
 use Rattle.floor_laws.proofs.JobChanges.{IsJobAlone, numbers_map, found_map, says_map}
 use Rattle.floor_laws.proofs.JobSays.{member_tells}
 use Rattle.owed_laws.specs.Owed.{owed_to}
-use Rattle.owed_laws.proofs.Agreeing.{agree-undisturbed, agree-owed, agree-unaligned}
-use Rattle.owed_laws.specs.Undisturbed.{AreUnaligned}
+use Rattle.owed_laws.proofs.Agreeing.{agree-undisturbed, agree-owed}
 use Rattle.queue_laws.specs.Started.{is_left_in, AreStarted}
 use Rattle.queue_laws.specs.Steers.{Steers}
 use Rattle.lot_laws.specs.Lot.{IsInJob, Waits, Executes, IsAtWork, AtWork}
 use Rattle.lot_laws.proofs.AtWork.{executing_works, at_work_of, executes_by}
 use Rattle.lot_laws.proofs.Standing.{on_base, work-undisturbed}
 use Rattle.lot_laws.proofs.Steering.{control-works}
-
--- a number is 1
-abbrev IsOne : ℕ → Type 0
-IsOne k = k ≡ 1
+use Rattle.place_laws.proofs.Holding.{IsOne}
 
 module _ (f : ToolFloor) (change : Substrate → Substrate) (alone : IsJobAlone change) (w : Jobs) where
   -- the floor behind the change
@@ -86,10 +82,6 @@ module _ (f : ToolFloor) (change : Substrate → Substrate) (alone : IsJobAlone 
   -- as much is owed
   pub behind_owed : (counted : ℕ → Bool) → owed_to counted (picture behind) ≡ owed_to counted (picture f)
   behind_owed counted = agree-owed (picture f) (record (picture behind) { jobs = (picture f).jobs }) behind_agrees counted
-
-  -- an unfinished one in its slot isn't aligned
-  pub behind_unaligned : Sound f → AreUnaligned (picture f) → AreUnaligned (picture behind)
-  behind_unaligned h u = agree-unaligned (picture f) (record (picture behind) { jobs = (picture f).jobs }) behind_agrees h.valid u
 
   -- ---- when it stays at work
 

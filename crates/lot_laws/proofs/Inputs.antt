@@ -1,11 +1,7 @@
 -- A control job stays at work and executes on where jobs are created, where the order of the queue changes, and where a command is fetched.
-use Rattle.std.proofs.Common.{◌≡◌, ◌≤◌, ℕ, if◌then◌else◌, arith, ◌+◌, ◌==◌, Bool, true, false, List, [], ◌∷◌, ◌++◌, Option, Some, None, option_map, refl, sym, ◌∙◌, ap, subst, ◌⊎◌, inl, inr}
+use Rattle.std.proofs.Common.{◌≡◌, ◌≤◌, ℕ, if◌then◌else◌, arith, ◌+◌, ◌==◌, Bool, true, false, List, [], ◌∷◌, ◌++◌, Some, None, refl, sym, ◌∙◌, ap, subst, ◌⊎◌, inl, inr}
 use Rattle.std.proofs.lemmas.Bool.{true≢false}
-use Rattle.std.proofs.lemmas.Bool.Decides.{Decides-eqb}
-use Rattle.robot_moves.specs.declared.module.Module.{Module}
-use Rattle.robot_moves.specs.declared.module.Module.TheVariants.{Idle, Busy, Down}
-use Rattle.robot_moves.specs.Modules.{module_at, change_module, taken}
-use Rattle.substrate.specs.Places.{PlaceMap}
+use Rattle.robot_moves.specs.Modules.{change_module, taken}
 use Rattle.process_job.specs.Jobs.{job_numbered, created}
 use Rattle.process_job.specs.Creating.{create_fault}
 use Rattle.process_job.specs.declared.job.JobSpec.{JobSpec}
@@ -18,10 +14,9 @@ use Rattle.tool_jobs.specs.Together.{AreTogether}
 use Rattle.floor_model.specs.declared.tracked.Substrate.{Substrate}
 use Rattle.floor_model.specs.Floor.{ToolFloor, with_jobs, fetched, number_of}
 use Rattle.floor_moves.specs.Floor.{is_done}
-use Rattle.place_laws.specs.Picture.{picture, module_of}
+use Rattle.place_laws.specs.Picture.{picture}
 use Rattle.place_laws.specs.Sound.{Sound}
 use Rattle.place_laws.proofs.Holding.{found_number, true_of_found}
-use Rattle.picture_laws.proofs.Issuing.{changed_there, changed_else}
 use Rattle.floor_laws.proofs.JobSays.{IsMember, member_tells, said_there}
 use Rattle.queue_laws.specs.Started.{is_left_in, AreStarted}
 use Rattle.queue_laws.proofs.Lists.{one_more_back}
@@ -31,14 +26,12 @@ use Rattle.lot_laws.proofs.AtWork.{at_work_of, executes_by}
 use Rattle.lot_laws.proofs.Steering.{left_in_kept, created-works, control-works, added_same, added-works}
 use Rattle.lot_laws.proofs.Going.{controls-work, controls-execute}
 use Rattle.lot_laws.proofs.Answers.{places-executes}
+use Rattle.lot_laws.proofs.Failing.{fetched_same}
 
 module _ (number : ℕ) (counted : ℕ → Bool) (f : ToolFloor) (h : Sound f) (t : AreTogether f.jobs) (s : AreStarted f.jobs) {before : Jobs} (e : AtWork number counted before f) where
   -- ---- a process job is created
 
   module _ (spec : JobSpec) (free : create_fault spec f.jobs.process ≡ None) where
-    abbrev new : ProcessJob
-    new = created (f.jobs.process.given + 1) spec
-
     -- one that is found before is found then
     pub more_on : (k : ℕ) (js : List ProcessJob) (j : ProcessJob) → job_numbered k js ≡ Some j → job_numbered k (js ++ created (f.jobs.process.given + 1) spec ∷ []) ≡ Some j
     more_on k [] j q = absurd (cc)
@@ -110,25 +103,12 @@ module _ (number : ℕ) (counted : ℕ → Bool) (f : ToolFloor) (h : Sound f) (
 
 -- ---- a command is fetched
 
-taken_same : (o : Option Module) (p : PlaceMap) → module_of (option_map taken o) p ≡ module_of o p
-taken_same None p = refl
-taken_same (Some Idle) p = refl
-taken_same (Some (Busy c b)) p = refl
-taken_same (Some Down) p = refl
-
 pub fetched-executes : (number : ℕ) (counted : ℕ → Bool) (f : ToolFloor) → Executes number counted f → (m : ℕ) → Executes number counted (fetched m f)
 fetched-executes number counted f e m = places-executes number counted f e f.places (change_module m taken f.modules) (λ k is. is) (record {
   here = e.substrates.here;
   finished = e.substrates.finished;
   in_chamber = e.substrates.in_chamber;
   in_slot = e.substrates.in_slot;
-  to_chamber = λ k n c d g q. e.substrates.to_chamber k n c d (sym (same k) ∙ g) q;
+  to_chamber = λ k n c d g q. e.substrates.to_chamber k n c d (sym (fetched_same f m k) ∙ g) q;
   not_given = e.substrates.not_given;
-}) where
-  same : (k : ℕ) → module_of (module_at k (change_module m taken f.modules)) f.places ≡ module_of (module_at k f.modules) f.places
-  same k = of (k == m) refl where
-    of : (b : Bool) → (k == m) ≡ b → module_of (module_at k (change_module m taken f.modules)) f.places ≡ module_of (module_at k f.modules) f.places
-    of true q =
-        subst (λ (i : ℕ). module_of (module_at i (change_module m taken f.modules)) f.places ≡ module_of (module_at i f.modules) f.places) (sym ((Decides-eqb k m).0 q))
-        (ap (λ (o : Option Module). module_of o f.places) (changed_there m taken f.modules) ∙ taken_same (module_at m f.modules) f.places)
-    of false q = ap (λ (o : Option Module). module_of o f.places) (changed_else m k (λ is. true≢false (sym ((Decides-eqb k m).1 is) ∙ q)) taken f.modules)
+})

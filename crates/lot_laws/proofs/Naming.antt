@@ -2,26 +2,25 @@
 use Rattle.std.proofs.Common.{◌≡◌, ◌≤◌, ℕ, ◌+◌, ◌==◌, Bool, true, false, ◌&&◌, ◌||◌, if◌then◌else◌, List, [], ◌∷◌, Option, Some, None, refl, sym, ◌∙◌, ap, subst, arith}
 use Rattle.std.specs.List.{list_any}
 use Rattle.std.specs.Str.{bytes_eq}
-use Rattle.std.proofs.lemmas.Bool.{true≢false, and_parts}
+use Rattle.std.proofs.lemmas.Bool.{true≢false, and_parts, or_right}
 use Rattle.std.proofs.lemmas.Bool.Decides.{Decides-eqb, nat_tests}
 use Rattle.std.proofs.lemmas.Slice.Eq.{bytes_eq-Decides}
 use Rattle.carrier.specs.declared.carrier.Carrier.{Carrier}
-use Rattle.carrier.specs.declared.record.Accessing.{Accessing}
-use Rattle.carrier.specs.declared.record.Accessing.TheVariants as accessing
 use Rattle.carrier.specs.Tables.{access_number}
 use Rattle.carrier.specs.Record.{is_map_verified}
 use Rattle.carrier.specs.Carriers.{has_name, carrier_named, carrier_numbered}
 use Rattle.shop_floor.specs.Floor.{Floor}
-use Rattle.shop_floor.specs.Valid.{RiseFrom, IsFloor}
+use Rattle.shop_floor.specs.Valid.{IsFloor}
 use Rattle.shop_floor.proofs.Apart.{IsOnly, found_only, found_passes, has_its_name, named_so}
 use Rattle.process_job.specs.Jobs.{job_numbered, AreNumbered}
 use Rattle.process_job.specs.declared.job.Material.{Material}
 use Rattle.process_job.specs.declared.job.ProcessJob.{ProcessJob}
 use Rattle.floor_model.specs.declared.tracked.Substrate.{Substrate}
 use Rattle.floor_model.specs.Jobs.{is_carrier_of, is_slot_named, names_slot_of, is_in_use, is_carrier_here, is_material_here, is_here, names_carrier}
-use Rattle.floor_laws.proofs.JobSight.{none_some, some_same, each_found}
-use Rattle.floor_laws.proofs.JobJoins.{both_pass}
+use Rattle.floor_laws.proofs.JobSight.{none_some}
+use Rattle.floor_laws.proofs.JobJoins.{both_pass, name_there, use_number}
 use Rattle.lot_laws.specs.Lot.{is_in_named_slot}
+use Rattle.place_laws.proofs.Names.{each_found}
 
 -- ---- process jobs
 
@@ -53,26 +52,6 @@ any_numbered test last given (x ∷ xs) h e = by_test (test x) refl e (any_numbe
 
 -- ---- carriers
 
--- a carrier of a number among those whose numbers rise is not below the first
-not_below : (name : List ℕ) (k first next : ℕ) (cs : List Carrier) → RiseFrom first next cs → list_any (is_carrier_of name k) cs ≡ true → first ≤ k
-not_below name k first next [] rising e = absurd (true≢false (sym e))
-not_below name k first next (c ∷ cs) rising e = of (c.number == k) (bytes_eq c.name name) refl e (not_below name k (c.number + 1) next cs rising.1) where
-  of : (b d : Bool) → (c.number == k) ≡ b → ((b && d) || list_any (is_carrier_of name k) cs) ≡ true → (list_any (is_carrier_of name k) cs ≡ true → c.number + 1 ≤ k) → first ≤ k
-  of true d q e rest = let same = (Decides-eqb c.number k).0 q in let less = rising.0 in omega (arith, same, less)
-  of false d q e rest = let more = rest e in let less = rising.0 in omega (arith, more, less)
-
--- the carrier of the number has the name
-pub name_there : (name : List ℕ) (k first next : ℕ) (cs : List Carrier) (x : Carrier) → RiseFrom first next cs → list_any (is_carrier_of name k) cs ≡ true → carrier_numbered k cs ≡ Some x → x.name ≡ name
-name_there name k first next [] x rising e found = none_some x found
-name_there name k first next (c ∷ cs) x rising e found = of (c.number == k) (bytes_eq c.name name) refl refl e found (name_there name k (c.number + 1) next cs x rising.1) where
-  of : (b d : Bool) → (c.number == k) ≡ b → bytes_eq c.name name ≡ d → ((b && d) || list_any (is_carrier_of name k) cs) ≡ true → (if b then Some c else carrier_numbered k cs) ≡ Some x → (list_any (is_carrier_of name k) cs ≡ true → carrier_numbered k cs ≡ Some x → x.name ≡ name) → x.name ≡ name
-  of true true q r e found rest = ap (λ (y : Carrier). y.name) (sym (some_same c x found)) ∙ (bytes_eq-Decides c.name name).0 r
-  of true false q r e found rest =
-      let same : c.number ≡ k = (Decides-eqb c.number k).0 q in
-      let less = not_below name k (c.number + 1) next cs rising.1 e in
-      absurd (omega (arith, same, less))
-  of false d q r e found rest = rest e found
-
 -- where a process job names the slot of a substrate, it names its carrier
 pub slot_names_carrier : (j : ProcessJob) (shop : Floor) (s : Substrate) (c : Carrier) → IsFloor shop → carrier_numbered s.carrier shop.carriers ≡ Some c → is_in_named_slot j shop s ≡ true → names_carrier c.name j ≡ true
 slot_names_carrier j shop s c h found e = of j.material e where
@@ -83,17 +62,7 @@ slot_names_carrier j shop s c h found e = of j.material e where
     by true q f later =
         let named = name_there m.carrier s.carrier 1 shop.next_carrier shop.carriers c h.rising (and_parts (list_any (is_carrier_of m.carrier s.carrier) shop.carriers) (is_slot_named m.slots s.slot) q).0 found in
         ap (λ (b : Bool). b || list_any (λ (x : Material). bytes_eq x.carrier c.name) ms) ((bytes_eq-Decides m.carrier c.name).1 (sym named))
-    by false q f later = or_right (bytes_eq m.carrier c.name) (list_any (λ (x : Material). bytes_eq x.carrier c.name) ms) (later f) where
-      or_right : (a b : Bool) → b ≡ true → (a || b) ≡ true
-      or_right true b t = refl
-      or_right false b t = t
-
--- a carrier that is here is NOT ACCESSED or IN ACCESS
-pub use_number : (a : Accessing) → is_in_use a ≡ true → access_number a ≤ 1
-use_number accessing.NotAccessed e = omega arith
-use_number accessing.InAccess e = omega arith
-use_number accessing.Complete e = absurd (true≢false (sym e))
-use_number accessing.Stopped e = absurd (true≢false (sym e))
+    by false q f later = or_right (bytes_eq m.carrier c.name) (list_any (λ (x : Material). bytes_eq x.carrier c.name) ms) (later f)
 
 -- and where its material is here, the carrier is NOT ACCESSED or IN ACCESS
 pub slot_in_use : (j : ProcessJob) (shop : Floor) (s : Substrate) (c : Carrier) → IsFloor shop → carrier_numbered s.carrier shop.carriers ≡ Some c → is_in_named_slot j shop s ≡ true → is_here j shop ≡ true → access_number c.states.access ≤ 1

@@ -65,10 +65,6 @@ in_order f sound o = record { sound = sound; together = o.together; started = o.
 
 -- ---- places
 
--- fewer places are in slots
-pub fewer-unaligned : (p q : PlaceMap) (ss : List Substrate) → ((n i k : ℕ) → place_in q n ≡ Some (slot i k) → place_in p n ≡ Some (slot i k)) → UnalignedIn p ss → UnalignedIn q ss
-fewer-unaligned p q ss back u n i k at left = u n i k (back n i k at) left
-
 -- ---- a substrate changes
 
 -- the change leaves its number, its job, and whether it is aligned; and one that is finished stays so
@@ -80,14 +76,13 @@ pub record IsMild (change : Substrate → Substrate) : Type 0 where
 
 -- so it is behind each row of tables 12 and 13
 finished_on : (row : ℕ) (p : Processing) → is_finished (processing_number p) ≡ true → is_finished (processing_number (after processing_number processing_table row p)) ≡ true
-finished_on row processing.NeedsProcessing e = absurd (true≢false (sym e))
-finished_on row processing.InProcess e = absurd (true≢false (sym e))
 finished_on row processing.Processed e = after_meets processing_number (λ (x : Processing). is_finished (processing_number x)) (λ n. false) row processing.Processed processing_table refl refl refl
 finished_on row processing.Aborted e = after_meets processing_number (λ (x : Processing). is_finished (processing_number x)) (λ n. false) row processing.Aborted processing_table refl refl refl
 finished_on row processing.Stopped e = after_meets processing_number (λ (x : Processing). is_finished (processing_number x)) (λ n. false) row processing.Stopped processing_table refl refl refl
 finished_on row processing.Rejected e = after_meets processing_number (λ (x : Processing). is_finished (processing_number x)) (λ n. false) row processing.Rejected processing_table refl refl refl
 finished_on row processing.Lost e = after_meets processing_number (λ (x : Processing). is_finished (processing_number x)) (λ n. false) row processing.Lost processing_table refl refl refl
 finished_on row processing.Skipped e = after_meets processing_number (λ (x : Processing). is_finished (processing_number x)) (λ n. false) row processing.Skipped processing_table refl refl refl
+finished_on row _ e = absurd (true≢false (sym e))
 
 pub transport_mild : (row : ℕ) → IsMild (substrate_moves 12 row)
 transport_mild row = record { number = λ s. refl; job = λ s. refl; aligned = λ s. refl; finished = λ s f. f }

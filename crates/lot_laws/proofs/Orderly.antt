@@ -51,7 +51,7 @@ use Rattle.floor_model.specs.declared.tracked.Substrate.{Substrate}
 use Rattle.floor_model.specs.Floor.{ToolFloor, opening, with_shop, with_jobs, fetched, substrate_numbered, change_numbered, number_of}
 use Rattle.floor_model.specs.Jobs.{found_sight, is_first_here, joined, freed, job_does, found_job_does, is_any_of_carrier}
 use Rattle.floor_model.specs.Modules.{move_wants, move_ready, move_does, found_move, issued, open_task, aligned, aligned_numbered, aligned_by, number_named}
-use Rattle.floor_model.specs.Signals.{at_module, done_row, at_processed, processed_rows, done_processing, at_done, done_processed, done_at, done_rows, closing_at, closing_rows, can_be_lost, lost_at, lost_rows, is_of_aborting}
+use Rattle.floor_model.specs.Signals.{at_module, done_row, at_processed, processed_rows, done_processing, at_done, done_processed, done_at, done_rows, closing_at, closing_rows, can_be_lost, lost_at, lost_rows}
 use Rattle.floor_model.specs.Substrates.{is_of, reaches_verified, registers_found, removed_of, without_carrier, removed_where, substrate_does}
 use Rattle.floor_model.specs.Substrates as substrates
 use Rattle.floor_model.specs.Views.{planned}
@@ -71,7 +71,6 @@ use Rattle.floor_laws.proofs.EndOpen.{command_of, busy_at}
 use Rattle.floor_laws.proofs.FloorInputs.{listed_either, listed_starts, done_starts, done_sound, failed_sound, down_sound, lost_rows_sound}
 use Rattle.floor_laws.proofs.FloorRemoved.{removed_sound}
 use Rattle.floor_laws.proofs.FloorRows.{row_sound, least_sound, opening_sound}
-use Rattle.floor_laws.proofs.GrowLost.{lost_places}
 use Rattle.floor_laws.proofs.GrowTransfer.{Transfers, pick_places, place_places}
 use Rattle.floor_laws.proofs.JobCreated.{created_sound, control_changes_sound}
 use Rattle.floor_laws.proofs.JobEnds.{freed_alone}
@@ -86,6 +85,8 @@ use Rattle.queue_laws.proofs.Starting.{none-started, process-started, control-st
 use Rattle.lot_laws.specs.Lot.{InOrder}
 use Rattle.lot_laws.proofs.InJobs.{changed-in_jobs, process-in_jobs}
 use Rattle.lot_laws.proofs.Ordered.{UnalignedIn, Ordered, OrderedAt, to_ordered, in_order, transport_mild, processing_mild, changed-ordered, mapped-unaligned, registers-ordered}
+use Rattle.floor_laws.proofs.FloorPlaces.{done_still}
+use Rattle.floor_laws.proofs.EndLost.{lost_places}
 
 -- ---- the rows of jobs
 
@@ -345,12 +346,6 @@ module _ (f : ToolFloor) (sound : Sound f) (o : OrderedAt f) where
 one-ordered : (f : ToolFloor) (n row : ℕ) → (row == 8) ≡ false → OrderedAt f → OrderedAt (one_listed (firing 13 n row) f)
 one-ordered f n row other o = listed_either OrderedAt (firing 13 n row) f (λ starts. processing-ordered f o n row other) (λ left. o)
 
-done_other : (n : ℕ) (f : ToolFloor) → (done_processing n f == 8) ≡ false
-done_other n f = of (is_of_aborting (substrate_numbered n f.substrates) f) where
-  of : (b : Bool) → ((if b then 4 else 3) == 8) ≡ false
-  of true = refl
-  of false = refl
-
 same_place : (a b : Loc) → Some a ≡ Some b → a ≡ b
 same_place a b e = some_same a b e
 
@@ -411,7 +406,7 @@ module _ (m : ℕ) (f : ToolFloor) (sound : Sound f) (o : OrderedAt f) (c : Tool
 
     of : (x : Option ℕ) → OrderedAt (listed (firing 16 m 7 ∷ at_done x f) f)
     of None = closed
-    of (Some n) = one-ordered (one_listed (firing 16 m 7) f) n (done_processing n f) (done_other n f) closed
+    of (Some n) = one-ordered (one_listed (firing 16 m 7) f) n (done_processing n f) (done_still n f) closed
 
 -- Done of the open command of a module
 pub done-in_order : (m command : ℕ) (f : ToolFloor) → is_open command (module_at m f.modules) ≡ true → InOrder f → InOrder (listed (done_rows m f) f)
@@ -464,7 +459,7 @@ lost-in_order sub f o = in_order (listed (lost_rows sub f) f) (lost_rows_sound s
     moved = changed-ordered (substrate_moves 13 8) (processing_mild 8) n f was
 
     w : (number_named sub f.places ≡ Some n) × (place_in (floor_fired (firing 13 n 8) f).places n ≡ None) × ((k : ℕ) → (k ≡ n → ⊥) → place_in (floor_fired (firing 13 n 8) f).places k ≡ place_in f.places k)
-    w = lost_places f n sub is o.sound.base
+    w = lost_places f n sub is o.sound
 
     unaligned : UnalignedIn (removed_where (substrate_numbered n f.substrates) f.places) (change_numbered n (substrate_moves 13 8) f.substrates)
     unaligned k i l at left = by (k == n) refl where
@@ -577,10 +572,6 @@ pub headed-in_order : (name : List ℕ) (f : ToolFloor) → InOrder f → InOrde
 headed-in_order name f o =
     in_order (with_jobs (record f.jobs { control = headed name f.jobs.control }) f) (control_changes_sound f (headed name f.jobs.control) o.sound)
     (record { together = together_headed name f.jobs o.together; started = headed-started f.jobs o.together o.started name; unaligned = o.unaligned; in_jobs = o.in_jobs })
-
--- nothing does
-pub unchanged-in_order : (f : ToolFloor) → InOrder f → InOrder (with_jobs (record f.jobs { control = f.jobs.control }) f)
-unchanged-in_order f o = o
 
 -- a command is fetched
 pub fetched-in_order : (m : ℕ) (f : ToolFloor) → InOrder f → InOrder (fetched m f)

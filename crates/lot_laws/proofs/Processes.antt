@@ -59,13 +59,7 @@ apart_from a b q same = true≢false (sym ((Decides-eqb a b).1 same) ∙ q)
 -- one that NEEDS PROCESSING isn't finished
 needing_unfinished : (p : Processing) → is_needing p ≡ true → is_finished p ≡ false
 needing_unfinished processing.NeedsProcessing e = refl
-needing_unfinished processing.InProcess e = absurd (true≢false (sym e))
-needing_unfinished processing.Processed e = absurd (true≢false (sym e))
-needing_unfinished processing.Aborted e = absurd (true≢false (sym e))
-needing_unfinished processing.Stopped e = absurd (true≢false (sym e))
-needing_unfinished processing.Rejected e = absurd (true≢false (sym e))
-needing_unfinished processing.Lost e = absurd (true≢false (sym e))
-needing_unfinished processing.Skipped e = absurd (true≢false (sym e))
+needing_unfinished _ e = absurd (true≢false (sym e))
 
 module _ (number : ℕ) (counted : ℕ → Bool) (f : ToolFloor) (h : Sound f) (t : AreTogether f.jobs) (s : AreStarted f.jobs) {before : Jobs} (e : AtWork number counted before f)
     (n : ℕ) (j : ProcessJob) (known : job_numbered n f.jobs.process.kept ≡ Some j)

@@ -1,65 +1,56 @@
 -- A control job executes on where the substrates of a carrier are registered: no process job that is left in it names the carrier.
 use Rattle.std.proofs.Common.{◌≡◌, ◌≤◌, ◌<◌, ℕ, zero, suc, ◌+◌, ◌==◌, Bool, true, false, if◌then◌else◌, not, ◌&&◌, List, [], ◌∷◌, ◌++◌, length, map, Option, Some, None, IsSomeAnd, refl, sym, ◌∙◌, ap, subst, ◌⊎◌, inl, inr, arith}
-use Rattle.std.proofs.lemmas.Bool.{true≢false, and_parts, false_from_ne_true}
+use Rattle.std.proofs.lemmas.Bool.{true≢false, and_parts}
 use Rattle.std.proofs.lemmas.Bool.Decides.{Decides-eqb}
 use Rattle.std.proofs.lemmas.Slice.Eq.{bytes_eq-Decides}
-use Rattle.gem_tables.specs.Table.{firing, is_one_of, after, is_among}
+use Rattle.gem_tables.specs.Table.{firing}
 use Rattle.gem_ids.specs.declared.numbers.LocId.TheVariants.{Slot}
 use Rattle.gem_ids.specs.declared.numbers.PortNo.{PortNo}
 use Rattle.gem_ids.specs.declared.numbers.SlotNo.{SlotNo}
 use Rattle.gem_ids.specs.Names.{name_in_slot}
 use Rattle.carrier.specs.declared.carrier.Carrier.{Carrier}
-use Rattle.carrier.specs.declared.record.IdState.{IdState}
-use Rattle.carrier.specs.declared.record.MapState.{MapState}
-use Rattle.carrier.specs.declared.record.MapState.TheVariants as slots
 use Rattle.carrier.specs.Tables.{map_number, map_table}
-use Rattle.carrier.specs.Record.{is_id_not_read, is_map_not_read, is_map_verified}
-use Rattle.carrier.specs.Wants.{is_verified}
+use Rattle.carrier.specs.Record.{is_map_verified}
 use Rattle.carrier.specs.Carriers as carriers
-use Rattle.carrier.specs.Carriers.{carrier_named, carrier_numbered, is_usable, is_host_map}
+use Rattle.carrier.specs.Carriers.{carrier_named, carrier_numbered}
 use Rattle.shop_floor.specs.Floor.{Floor}
 use Rattle.shop_floor.specs.Machines as shop
 use Rattle.shop_floor.specs.Machines.{carrier_starts}
 use Rattle.shop_floor.specs.Valid.{ReadWherePresent, IsFloor}
 use Rattle.shop_floor.proofs.Apart.{all_follows, found_only}
-use Rattle.shop_floor.proofs.Cases.{starts_at_carrier}
 use Rattle.shop_floor.proofs.Keeps.{row-keeps as shop_keeps}
 use Rattle.shop_floor.proofs.Present.{has_number, numbered_contained}
 use Rattle.substrate.specs.Tables.{processing_number}
-use Rattle.substrate.specs.Places.{registered, substrate_named, has_name as place_has_name}
-use Rattle.substrate.specs.declared.registered.Registered.{Registered}
+use Rattle.substrate.specs.Places.{registered}
 use Rattle.process_job.specs.Jobs.{job_numbered}
 use Rattle.tool_jobs.specs.Jobs.{Jobs}
 use Rattle.process_job.specs.declared.job.ProcessJob.{ProcessJob}
 use Rattle.floor_model.specs.declared.tracked.Substrate.{Substrate}
-use Rattle.floor_model.specs.Floor.{ToolFloor, with_shop, substrate_numbered, number_of}
+use Rattle.floor_model.specs.Floor.{ToolFloor, with_shop, substrate_numbered}
 use Rattle.floor_model.specs.Jobs.{is_material_here, is_carrier_here, is_in_use, is_of_carrier, names_carrier, can_join}
 use Rattle.floor_model.specs.Machines.{floor_fired}
 use Rattle.floor_model.specs.Substrates.{can_register, first_substrate, registers_at, registers_slot, registers_slots, registers_at_port, registers_found, reaches_verified}
 use Rattle.floor_moves.specs.Floor as law
 use Rattle.floor_moves.specs.Floor.{Loc, is_done}
 use Rattle.floor_moves.specs.Agree.{Agree}
-use Rattle.floor_moves.specs.Carriers.{MayRegister, verified, registered as registered_by_numbers}
+use Rattle.floor_moves.specs.Carriers.{verified, registered as registered_by_numbers}
 use Rattle.floor_moves.specs.Valid.{Valid}
 use Rattle.floor_moves.proofs.Agreeing.{agree-keeps}
 use Rattle.floor_moves.proofs.Carrying.{verified-keeps}
 use Rattle.floor_moves.proofs.Registering.{registered-keeps}
 use Rattle.floor_moves.proofs.Maps.{set_else}
-use Rattle.place_laws.specs.Picture.{picture, of_one, where_present, port_number}
+use Rattle.place_laws.specs.Picture.{picture, of_one}
 use Rattle.place_laws.specs.Standing.{IsCarried}
 use Rattle.place_laws.specs.Sound.{Base, Sound}
-use Rattle.place_laws.proofs.Holding.{found_number, true_of_found, rising_given, kept_there, own_slot, IsThere}
+use Rattle.place_laws.proofs.Holding.{found_number, true_of_found}
 use Rattle.place_laws.proofs.Stays.{GoesOn, Stay, stay_numbered, stay-carried}
 use Rattle.place_laws.proofs.Leaving.{still_verified}
 use Rattle.picture_laws.proofs.Coming.{verifying_agrees}
-use Rattle.picture_laws.proofs.Registering.{registering_agrees}
 use Rattle.floor_laws.proofs.JobSight.{none_some, some_same}
 use Rattle.floor_laws.proofs.JobJoins.{both_pass}
-use Rattle.floor_laws.proofs.RegMore.{none_held, no_job}
-use Rattle.floor_laws.proofs.RegNames.{modules_same}
-use Rattle.floor_laws.proofs.RegSlots.{Filling, can}
+use Rattle.floor_laws.proofs.RegSlots.{Filling, can, may, slot_agrees}
 use Rattle.floor_laws.proofs.RegFilled.{slots_filled}
-use Rattle.floor_laws.proofs.RegVerified.{jobs_stay, found_changed}
+use Rattle.floor_laws.proofs.RegVerified.{jobs_stay, found_changed, Becomes, becomes}
 use Rattle.floor_laws.proofs.ShopAccess.{map_access}
 use Rattle.owed_laws.specs.Owed.{owed_to}
 use Rattle.owed_laws.specs.Undisturbed.{Undisturbed}
@@ -100,26 +91,6 @@ module _ (number : ℕ) (counted : ℕ → Bool) (before : Jobs) (s : Floor) (va
   -- ---- one
 
   module _ (slot : SlotNo) (f : ToolFloor) (first : 1 ≤ slot.0) (last : slot.0 ≤ 25) (fill : Filling s valid c d port found present is_read at named slot.0 f) (e : AtWork number counted before (with_shop s f)) (unnamed : Unnamed f) where
-    name : List ℕ
-    name = name_in_slot c.name slot.0
-
-    -- its substrate may be registered, by numbers
-    may : MayRegister c.number port.0 slot.0 (picture (with_shop s f))
-    may = record {
-      is_present = ap (of_one None where_present) found ∙ ap (λ (b : Bool). if b then port_number d.port else None) present ∙ ap port_number at;
-      is_read = ap (of_one false (λ (x : Carrier). is_map_verified x.states.map)) found ∙ is_read;
-      is_new = λ n known its same. fresh n its same (kept_there (with_shop s f) fill.carried n known);
-    } where
-      fresh : (n : ℕ) → (picture (with_shop s f)).carrier_of n ≡ c.number → (picture (with_shop s f)).slot_of n ≡ slot.0 → IsThere (with_shop s f) n → ⊥
-      fresh n its same h =
-          let carrier : h.one.carrier ≡ c.number = sym (ap (of_one 0 (λ (t : Substrate). t.carrier)) h.found) ∙ its in
-          let one : h.its ≡ d = some_same h.its d (sym h.known ∙ ap (λ (k : ℕ). carrier_numbered k s.carriers) carrier ∙ found) in
-          let port_same : h.of.port ≡ port = some_same h.of.port port (sym h.of.at ∙ ap (λ (x : Carrier). x.port) one ∙ at) in
-          let below = true_of_found number_of n (λ (t : Substrate). t.carrier ≡ c.number → (i : SlotNo) → t.slot ≡ Slot port i → i.0 < slot.0) f.substrates h.one fill.below h.found in
-          let less = below carrier h.of.slot (h.of.own ∙ ap (λ (x : PortNo). Slot x h.of.slot) port_same) in
-          let same_number : h.of.slot.0 ≡ slot.0 = sym (own_slot (with_shop s f) n h) ∙ same in
-          omega (arith, less, same_number)
-
     -- it stands undisturbed before
     u : Undisturbed counted (picture (with_shop s f))
     u = work-undisturbed number counted (with_shop s f) (record { shop = valid; carried = fill.carried; members = fill.members }) e
@@ -133,23 +104,8 @@ module _ (number : ℕ) (counted : ℕ → Bool) (before : Jobs) (s : Floor) (va
       substrates = f.substrates ++ first_substrate (f.places.given + 1) (name_in_slot c.name slot.0) c.number (Slot port slot) ∷ [];
     }
 
-    is_fresh : is_one_of (map number_of f.substrates) (f.places.given + 1) ≡ false
-    is_fresh = false_from_ne_true (is_one_of (map number_of f.substrates) (f.places.given + 1)) (λ is. let less = rising_given 0 f.places.given f.substrates (f.places.given + 1) fill.rising is in omega (arith, less))
-
-    found_still : (sub : List ℕ) (r : Registered) → substrate_named sub f.places.held ≡ Some r → substrate_named sub (f.places.held ++ record { sub = name_in_slot c.name slot.0; number = f.places.given + 1; at = Slot port slot } ∷ []) ≡ Some r
-    found_still sub r there = still f.places.held there where
-      still : (rs : List Registered) → substrate_named sub rs ≡ Some r → substrate_named sub (rs ++ record { sub = name_in_slot c.name slot.0; number = f.places.given + 1; at = Slot port slot } ∷ []) ≡ Some r
-      still [] q = none_some r q
-      still (x ∷ xs) q = of (place_has_name sub x) q (still xs) where
-        of : (b : Bool) → (if b then Some x else substrate_named sub xs) ≡ Some r → (substrate_named sub xs ≡ Some r → substrate_named sub (xs ++ record { sub = name_in_slot c.name slot.0; number = f.places.given + 1; at = Slot port slot } ∷ []) ≡ Some r)
-            → (if b then Some x else substrate_named sub (xs ++ record { sub = name_in_slot c.name slot.0; number = f.places.given + 1; at = Slot port slot } ∷ [])) ≡ Some r
-        of true g later = g
-        of false g later = later g
-
     agrees : Agree (registered_by_numbers c.number port.0 slot.0 (picture (with_shop s f))) (picture (with_shop s behind))
-    agrees =
-        registering_agrees (name_in_slot c.name slot.0) c.number port slot (with_shop s f) is_fresh (none_held 0 f.places.given (f.places.given + 1) f.places.held fill.places.numbered (omega arith)) (no_job 0 f.jobs.process.given 0 f.jobs.process.kept fill.numbered (omega arith))
-        (modules_same (with_shop s f) fill.rising fill.by_numbers.members (registered (name_in_slot c.name slot.0) (Slot port slot) f.places) (λ sub r there is. found_still sub r there))
+    agrees = slot_agrees s valid c d port found present is_read at named slot f first last fill
 
     -- a counted one is another
     other : (k : ℕ) → counted k ≡ true → k ≡ f.places.given + 1 → ⊥
@@ -170,7 +126,7 @@ module _ (number : ℕ) (counted : ℕ → Bool) (before : Jobs) (s : Floor) (va
         members = λ k is. e.members k (sym (agrees.jobs.is_member k) ∙ is);
         stands = λ k y there is. stands k y there is (found_either k f.substrates new y there);
         all = λ k i y j there kept left can. takes k i y j kept left can (found_either k f.substrates new y there);
-        substrates = (agree-undisturbed (registered_by_numbers c.number port.0 slot.0 (picture (with_shop s f))) (picture (with_shop s behind)) agrees counted (registered-keeps (picture (with_shop s f)) fill.by_numbers c.number port.0 slot.0 may) stays.0).substrates;
+        substrates = (agree-undisturbed (registered_by_numbers c.number port.0 slot.0 (picture (with_shop s f))) (picture (with_shop s behind)) agrees counted (registered-keeps (picture (with_shop s f)) fill.by_numbers c.number port.0 slot.0 (may s valid c d port found present is_read at named slot f first last fill)) stays.0).substrates;
       },
       agree-owed (registered_by_numbers c.number port.0 slot.0 (picture (with_shop s f))) (picture (with_shop s behind)) agrees counted ∙ stays.1,
     ) where
@@ -227,48 +183,6 @@ module _ (number : ℕ) (counted : ℕ → Bool) (before : Jobs) (s : Floor) (va
       (rest.0, rest.1 ∙ one.1)
 
 -- ---- the carrier
-
--- a carrier whose map becomes VERIFIED: it wasn't, and it is present
-record Becomes (row : ℕ) (c : Carrier) : Type 0 where
-  not_yet : is_map_verified c.states.map ≡ false
-  then_is : is_map_verified (after map_number map_table row c.states.map) ≡ true
-  here : c.present ≡ true
-
--- rows 1 and 2 start where the map is NOT READ
-not_read : (m : MapState) → is_among map_number (slots.NotRead ∷ []) m ≡ true → m ≡ slots.NotRead
-not_read slots.NotRead e = refl
-not_read slots.WaitingForHost e = absurd (cc)
-not_read slots.Verified e = absurd (cc)
-not_read slots.VerificationFailed e = absurd (cc)
-
--- rows 3 and 4 start where it waits
-waits : (m : MapState) → is_among map_number (slots.WaitingForHost ∷ []) m ≡ true → m ≡ slots.WaitingForHost
-waits slots.NotRead e = absurd (cc)
-waits slots.WaitingForHost e = refl
-waits slots.Verified e = absurd (cc)
-waits slots.VerificationFailed e = absurd (cc)
-
--- so the carrier was read
-read_now : (i : IdState) (m : MapState) → m ≡ slots.WaitingForHost → not (is_id_not_read i && is_map_not_read m) ≡ true
-read_now i m is = ap (λ (x : MapState). not (is_id_not_read i && is_map_not_read x)) is ∙ of (is_id_not_read i) where
-  of : (b : Bool) → not (b && false) ≡ true
-  of true = refl
-  of false = refl
-
--- rows 1 and 3 are such
-becomes : (row : ℕ) (c : Carrier) → ReadWherePresent c → reaches_verified row ≡ true → carrier_starts map_number map_table (λ s. s.map) (λ to s. record s { map = to }) row (Some c) ≡ true → Becomes row c
-becomes row c reads reaches starts =
-    starts_at_carrier map_number map_table (λ s. s.map) (λ to s. record s { map = to }) (λ (r : ℕ). reaches_verified r ≡ true → Becomes r c) c row (
-      (λ among wants reaches. let is = not_read c.states.map among in record { not_yet = ap is_map_verified is; then_is = ap (λ (m : MapState). is_map_verified (after map_number map_table 1 m)) is; here = (and_parts c.present _ (and_parts (is_verified c) (is_usable c.map && is_host_map c.map c.host_map) wants).0).0 }),
-      (
-        (λ among wants reaches. absurd (true≢false (sym reaches))),
-        (
-          (λ among wants reaches. let is = waits c.states.map among in record { not_yet = ap is_map_verified is; then_is = ap (λ (m : MapState). is_map_verified (after map_number map_table 3 m)) is; here = reads (read_now c.states.id c.states.map is) }),
-          ((λ among wants reaches. absurd (true≢false (sym reaches))), tt),
-        ),
-      ),
-    )
-    starts reaches
 
 -- ---- the row
 

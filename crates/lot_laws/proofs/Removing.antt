@@ -2,8 +2,7 @@
 -- in the control job names it, and each of its substrates that is counted is done.
 use Rattle.std.proofs.Common.{◌≡◌, ℕ, zero, suc, ◌==◌, Bool, true, false, if◌then◌else◌, not, ◌&&◌, ◌||◌, List, [], ◌∷◌, filter, Option, Some, None, option_map, bytes_eq, refl, sym, ◌∙◌, ap, subst, ◌⊎◌, inl, inr, arith}
 use Rattle.std.specs.List.{AllByRecursion, list_any, list_all}
-use Rattle.std.proofs.lemmas.Bool.{true≢false, and_parts, not-true}
-use Rattle.std.proofs.lemmas.Bool.Decides.{Decides-eqb}
+use Rattle.std.proofs.lemmas.Bool.{true≢false, and_parts, not-true, not-false}
 use Rattle.std.proofs.lemmas.Slice.Eq.{bytes_eq-Decides}
 use Rattle.gem_tables.specs.Table.{firing}
 use Rattle.gem_tables.proofs.Rows.{both}
@@ -12,13 +11,13 @@ use Rattle.load_port.specs.Ports as ports
 use Rattle.load_port.specs.Ports.{port_numbered, change_port}
 use Rattle.carrier.specs.declared.carrier.Carrier.{Carrier}
 use Rattle.carrier.specs.Tables.{access_number}
-use Rattle.carrier.specs.Record.{is_done, is_map_verified}
+use Rattle.carrier.specs.Record.{is_map_verified}
 use Rattle.carrier.specs.Carriers.{has_name, carrier_named, carrier_numbered, without}
 use Rattle.shop_floor.specs.Floor.{floor_of, number_of as carrier_number}
 use Rattle.shop_floor.specs.Owning.{number_named}
 use Rattle.shop_floor.specs.Rows.{freed, owner, forgets}
 use Rattle.shop_floor.specs.Machines as shop
-use Rattle.shop_floor.specs.Valid.{IsFloor, ReadWherePresent}
+use Rattle.shop_floor.specs.Valid.{IsFloor}
 use Rattle.shop_floor.proofs.Apart.{IsOnly, all_follows, found_only, found_passes, none_passes, unknown_all, named_so, has_its_name}
 use Rattle.shop_floor.proofs.Belonging.{owner_changed}
 use Rattle.shop_floor.proofs.Keeps.{row-keeps as shop_keeps}
@@ -40,9 +39,8 @@ use Rattle.floor_moves.proofs.Carrying.{forgotten-keeps}
 use Rattle.place_laws.specs.Picture.{picture, of_one}
 use Rattle.place_laws.specs.Sound.{Sound}
 use Rattle.place_laws.proofs.Holding.{rising_distinct}
-use Rattle.place_laws.proofs.Leaving.{unverified}
-use Rattle.place_laws.proofs.Stays.{Stay, stay_same, at_found}
-use Rattle.floor_laws.proofs.GrowEnds.{ends_at, over_ended}
+use Rattle.place_laws.proofs.Leaving.{swapped}
+use Rattle.place_laws.proofs.Stays.{Stay, stay_same}
 use Rattle.floor_laws.proofs.GrowTaken.{by_its_number}
 use Rattle.floor_laws.proofs.RemAgree.{forgetting_agrees}
 use Rattle.floor_laws.proofs.RemPlaces.{filter_all}
@@ -53,12 +51,13 @@ use Rattle.owed_laws.specs.Undisturbed.{Undisturbed}
 use Rattle.owed_laws.proofs.Agreeing.{agree-undisturbed, agree-owed}
 use Rattle.owed_laws.proofs.Carrying.{forgotten-stays}
 use Rattle.lot_laws.specs.Lot.{IsInJob, Waits, AtWork}
-use Rattle.lot_laws.proofs.Naming.{use_number}
 use Rattle.lot_laws.proofs.Orderly.{found_among_all}
 use Rattle.lot_laws.proofs.Shopping.{vacated-works}
 use Rattle.lot_laws.proofs.Shops.{any_alike, same_use, shop-works}
 use Rattle.lot_laws.proofs.Standing.{on_base, work-undisturbed}
 use Rattle.lot_laws.proofs.Works.{WorksOn}
+use Rattle.floor_laws.proofs.FloorRemoved.{owner_ended}
+use Rattle.floor_laws.proofs.JobJoins.{use_number}
 
 -- ---- lists
 
@@ -127,22 +126,12 @@ module _ (number : ℕ) (counted : ℕ → Bool) (f : ToolFloor) (kept : Kept f)
       any_left (λ (d : Carrier). not (has_name name d)) (is_carrier_of other x.carrier) f.shop.carriers
       (all_follows (IsOnly c) (λ (d : Carrier). not (has_name name d) ≡ false → is_carrier_of other x.carrier d ≡ false) f.shop.carriers missed (found_only (has_name name) f.shop.carriers c kept.base.shop.apart found))
     where
-      is_it : (b : Bool) → not b ≡ false → b ≡ true
-      is_it true q = refl
-      is_it false q = sym q
-
-      turned : (a b : ℕ) → (a == b) ≡ false → (b == a) ≡ false
-      turned a b q = by (b == a) refl where
-        by : (t : Bool) → (b == a) ≡ t → t ≡ false
-        by false r = refl
-        by true r = sym ((Decides-eqb a b).1 (sym ((Decides-eqb b a).0 r))) ∙ q
-
       missed : (d : Carrier) → IsOnly c d → not (has_name name d) ≡ false → is_carrier_of other x.carrier d ≡ false
       missed d only gone =
-          let named : has_name name d ≡ true = is_it (has_name name d) gone in
+          let named : has_name name d ≡ true = not-false (has_name name d) gone in
           let same : d ≡ c = only (has_its_name c.name d (named_so name d named ∙ sym (named_so name c (found_passes (has_name name) f.shop.carriers c found)))) in
           ap (λ (y : Carrier). (y.number == x.carrier) && bytes_eq y.name other) same
-          ∙ ap (λ (b : Bool). b && bytes_eq c.name other) (turned x.carrier c.number (not-true (is_of c.number x) away))
+          ∙ ap (λ (b : Bool). b && bytes_eq c.name other) (swapped x.carrier c.number (not-true (is_of c.number x) away))
 
   join_same : (x : Substrate) → not (is_of c.number x) ≡ true → (j : ProcessJob) → can_join j taken.shop x ≡ can_join j f.shop x
   join_same x away j =
@@ -222,20 +211,6 @@ module _ (number : ℕ) (counted : ℕ → Bool) (port : ℕ) (f : ToolFloor) (k
     of (Some name) is valid = named name is (carrier_named name f.shop.carriers) refl valid
 
 -- ---- rows 5 of table 4 and 6 of table 7
-
--- the carrier of a port from which one is removed has ended, also where it isn't present
-pub owner_ended : (port : ℕ) (f : ToolFloor) → floor_starts (firing 4 port 5) f ≡ true → shop.floor_least f.shop ≡ None → Sound f → OwnerEnded port f
-owner_ended port f starts rests sound name c its found = of c.present refl where
-  of : (b : Bool) → c.present ≡ b → HasEnded c.number (picture f)
-  of true present = ends_at port f starts rests sound.base.shop sound.unloading name c its found present
-  of false absent =
-      let reads : ReadWherePresent c = at_found ReadWherePresent (has_name name) f.shop.carriers c sound.base.shop.read found in
-      let unread = unverified f.substrates c reads (λ present. true≢false (sym present ∙ absent)) in
-      over_ended c f (by_its_number f.shop sound.base.shop name c found) (either (is_done c.states.access) (is_map_verified c.states.map) unread)
-    where
-      either : (a b : Bool) → b ≡ false → (a || not b) ≡ true
-      either true b q = refl
-      either false b q = ap not q
 
 -- what belongs to the port stays so behind the first
 owner_stays : (port : ℕ) (f : ToolFloor) → owner (port_numbered port (floor_fired (firing 4 port 5) f).shop.ports) ≡ owner (port_numbered port f.shop.ports)

@@ -1,26 +1,22 @@
 -- A control job that is at work is so behind what the host writes of carriers, a carrier that is cancelled, a binding that is cancelled, and a
 -- carrier that is placed; and where one is removed from a port to which no carrier belongs.
-use Rattle.std.proofs.Common.{◌≡◌, ℕ, ◌==◌, Bool, true, false, ◌&&◌, ◌||◌, List, Option, Some, None, refl, sym, ◌∙◌, ap, subst, ◌⊎◌, inl, inr}
-use Rattle.std.proofs.lemmas.Bool.{true≢false, both_ways, or_parts, and_parts}
+use Rattle.std.proofs.Common.{◌≡◌, ℕ, ◌==◌, Bool, true, false, ◌&&◌, ◌||◌, List, Option, Some, refl, sym, ◌∙◌, ap, subst, ◌⊎◌, inl, inr}
+use Rattle.std.proofs.lemmas.Bool.{and_parts}
 use Rattle.std.proofs.lemmas.Bool.Decides.{Decides-eqb}
 use Rattle.gem_tables.specs.Table.{firing}
 use Rattle.gem_tables.specs.declared.firing.Firing.{Firing}
-use Rattle.load_port.specs.declared.caack.Caack.TheVariants as caack
 use Rattle.load_port.specs.Caack.{is_done_code}
 use Rattle.load_port.specs.Ports.{port_numbered}
 use Rattle.carrier.specs.declared.carrier.Carrier.{Carrier}
 use Rattle.carrier.specs.declared.action.CarrierAction.{CarrierAction}
-use Rattle.carrier.specs.declared.action.CarrierWord.{CarrierWord}
 use Rattle.carrier.specs.declared.action.CarrierWord.TheVariants as word
 use Rattle.carrier.specs.Carriers as carriers
-use Rattle.carrier.specs.Carriers.{has_name, carrier_named, carrier_numbered, directed_to, told_map, found_or_created, created as new_carrier}
-use Rattle.carrier.specs.Verdict.{cancel_notify_code}
+use Rattle.carrier.specs.Carriers.{carrier_numbered}
 use Rattle.shop_floor.specs.Floor.{Floor, arrival_of, with_carrier}
 use Rattle.shop_floor.specs.Rows.{owner}
-use Rattle.shop_floor.specs.Requests.{came, carrier_code, carrier_written, directed, maps_told}
+use Rattle.shop_floor.specs.Requests.{came, carrier_code, carrier_written}
 use Rattle.shop_floor.specs.Machines as shop
 use Rattle.shop_floor.specs.Valid.{IsFloor}
-use Rattle.shop_floor.proofs.Apart.{IsOnly, all_follows, found_only, found_passes, named_so, has_its_name}
 use Rattle.shop_floor.proofs.Asked.{written-keeps}
 use Rattle.shop_floor.proofs.Keeps.{row-keeps as shop_keeps, came-keeps, accessing-keeps}
 use Rattle.tool_jobs.specs.Jobs.{Jobs}
@@ -31,49 +27,16 @@ use Rattle.floor_model.specs.Machines.{floor_starts, floor_fired}
 use Rattle.place_laws.specs.Sound.{Sound}
 use Rattle.place_laws.proofs.Stays.{NonePresent}
 use Rattle.place_laws.proofs.Leaving.{Leaves, leaves_then, port_leaves}
-use Rattle.place_laws.proofs.PortRequests.{answer_of, answer_second, action}
 use Rattle.place_laws.proofs.ShopRows.{transfer_leaves, accessing_leaves}
 use Rattle.place_laws.proofs.Written.{written_leaves}
-use Rattle.floor_laws.proofs.ShopAccess.{SameAccess, finds_without, finds_forgets, finds_more, finds_found, access_found, access_same, access_named, transfer_access}
-use Rattle.floor_laws.proofs.ShopHost.{forgets_leaves, still_placed}
+use Rattle.floor_laws.proofs.ShopAccess.{SameAccess, finds_forgets, access_found, transfer_access}
+use Rattle.floor_laws.proofs.ShopHost.{forgets_leaves, still_placed, written_access}
 use Rattle.floor_laws.proofs.ShopTables.{is_shop_row}
 use Rattle.lot_laws.specs.Lot.{is_registration, AtWork}
 use Rattle.lot_laws.proofs.Failing.{turned-works}
 use Rattle.lot_laws.proofs.Registering.{registration-works}
 use Rattle.lot_laws.proofs.Shops.{same_use, shop-works, shop_row-works, accessing_use}
 use Rattle.lot_laws.proofs.Works.{WorksOn}
-
--- ---- states of accessing where the host writes
-
--- the carrier of a name, where it isn't present
-absent_named : (name : List ℕ) (f : Floor) (c : Carrier) → IsFloor f → carrier_named name f.carriers ≡ Some c → c.present ≡ false → NonePresent name f.carriers
-absent_named name f c valid found absent =
-    all_follows (IsOnly c) (λ (d : Carrier). has_name name d ≡ true → d.present ≡ true → ⊥) f.carriers
-    (λ d only is present. both_ways _ (ap (λ (x : Carrier). x.present) (only (has_its_name c.name d (named_so name d is ∙ sym (named_so name c (found_passes (has_name name) f.carriers c found))))) ∙ absent) present)
-    (found_only (has_name name) f.carriers c valid.apart found)
-
--- what CancelCarrierNotification may forget isn't present
-unknown_absent : (name : List ℕ) (f : Floor) (o : Option Carrier) → IsFloor f → carrier_named name f.carriers ≡ o → is_done_code (cancel_notify_code o) ≡ true → NonePresent name f.carriers
-unknown_absent name f None valid found code = absurd (true≢false (sym code))
-unknown_absent name f (Some c) valid found code = absent_named name f c valid found (or_parts c.present c.bound (answer_second (c.present || c.bound) caack.Impossible caack.Done code refl)).0
-
-directed_access : (name : List ℕ) (port : ℕ) (f : Floor) → SameAccess f.carriers (directed name port f).carriers
-directed_access name port f =
-    let there = found_or_created f.next_carrier name f.carriers in
-    access_named name (directed_to port) (λ c. refl) (λ c. refl) f.carriers there (access_found f.carriers there (finds_found f.next_carrier name f.carriers))
-
-told_access : (o : Option (List ℕ)) (name : List ℕ) (f : Floor) → SameAccess f.carriers (maps_told o name f.carriers)
-told_access None name f = access_same f.carriers
-told_access (Some slots) name f = access_named name (told_map slots) (λ c. refl) (λ c. refl) f.carriers f.carriers (access_same f.carriers)
-
-written_access : (w : CarrierWord) (id : List ℕ) (port : ℕ) (slots : Option (List ℕ)) (bad : Bool) (f : Floor) → IsFloor f → is_done_code (carrier_code f (action w id port slots bad)) ≡ true → SameAccess f.carriers (carrier_written (action w id port slots bad) f).carriers
-written_access word.Bind id port slots bad f valid code = directed_access id port f
-written_access word.CancelBind id port slots bad f valid code = access_same f.carriers
-written_access word.Proceed id port slots bad f valid code = told_access slots id f
-written_access word.Cancel id port slots bad f valid code = access_same f.carriers
-written_access word.Notify id port slots bad f valid code = access_found f.carriers _ (finds_more f.carriers (new_carrier f.next_carrier id))
-written_access word.CancelNotify id port slots bad f valid code = access_found f.carriers _ (finds_without id f.carriers (unknown_absent id f (carrier_named id f.carriers) valid refl (answer_of _ caack.Faulty _ code refl)))
-written_access word.Unknown id port slots bad f valid code = access_same f.carriers
 
 module _ (number : ℕ) (counted : ℕ → Bool) (f : ToolFloor) (sound : Sound f) {before : Jobs} (e : AtWork number counted before f) where
   by_change : (s : Floor) → Leaves f.substrates f.shop s → IsFloor s → SameAccess f.shop.carriers s.carriers → WorksOn number counted before f (with_shop s f)

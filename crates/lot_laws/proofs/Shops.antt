@@ -2,17 +2,17 @@
 -- names are NOT ACCESSED or IN ACCESS still.
 use Rattle.std.proofs.Common.{◌≡◌, ◌≤◌, ℕ, ◌==◌, Bool, true, false, if◌then◌else◌, not, ◌&&◌, ◌||◌, List, [], ◌∷◌, Option, Some, None, bytes_eq, refl, sym, ◌∙◌, ap, subst, ◌⊎◌, inl, inr, arith}
 use Rattle.std.specs.List.{AllByRecursion, list_any, list_all}
-use Rattle.std.proofs.lemmas.Bool.{true≢false, and_parts, not-true}
+use Rattle.std.proofs.lemmas.Bool.{true≢false, and_parts, not-true, or_right}
 use Rattle.std.proofs.lemmas.Bool.Decides.{Decides-eqb}
 use Rattle.std.proofs.lemmas.Slice.Eq.{bytes_eq-Decides}
-use Rattle.gem_tables.specs.Table.{is_one_of, firing, is_creation, is_among, row_of, found_starts, after}
+use Rattle.gem_tables.specs.Table.{is_one_of, firing}
 use Rattle.gem_tables.specs.declared.firing.Firing.{Firing}
 use Rattle.gem_tables.proofs.Machines.{starts_cases}
-use Rattle.gem_tables.proofs.Rows.{both, found_row}
+use Rattle.gem_tables.proofs.Rows.{both}
 use Rattle.carrier.specs.declared.carrier.Carrier.{Carrier}
 use Rattle.carrier.specs.declared.record.Accessing.{Accessing}
 use Rattle.carrier.specs.declared.record.Accessing.TheVariants as access
-use Rattle.carrier.specs.Tables.{CarrierRow, access_number, accessing_table}
+use Rattle.carrier.specs.Tables.{access_number}
 use Rattle.carrier.specs.Record.{is_map_verified}
 use Rattle.carrier.specs.Carriers as carriers
 use Rattle.carrier.specs.Carriers.{has_name, carrier_named, carrier_numbered}
@@ -29,10 +29,8 @@ use Rattle.process_job.specs.declared.job.ProcessJob.{ProcessJob}
 use Rattle.floor_model.specs.declared.tracked.Substrate.{Substrate}
 use Rattle.floor_model.specs.Floor.{ToolFloor, with_shop, substrate_numbered}
 use Rattle.floor_model.specs.Jobs.{is_carrier_of, is_slot_named, names_slot_of, can_join, is_in_use, is_carrier_here, is_material_here, is_here, names_carrier, is_any_of_carrier}
-use Rattle.floor_model.specs.Machines.{floor_machines, floor_starts, floor_fired, taken_along, accessing_starts}
-use Rattle.floor_model.specs.Wants.{accessing_wants, is_quiet, are_back}
-use Rattle.floor_model.specs.Substrates.{reaches_verified, without_carrier, registers_found}
-use Rattle.shop_floor.specs.Owning.{owner_number}
+use Rattle.floor_model.specs.Machines.{floor_machines, floor_starts, floor_fired, accessing_starts}
+use Rattle.floor_model.specs.Substrates.{reaches_verified, registers_found}
 use Rattle.floor_moves.specs.Floor.{is_done}
 use Rattle.place_laws.specs.Picture.{picture, of_one}
 use Rattle.place_laws.specs.Sound.{Base, Sound}
@@ -45,13 +43,14 @@ use Rattle.floor_laws.proofs.JobSight.{none_some, some_same}
 use Rattle.floor_laws.proofs.JobSays.{any_found}
 use Rattle.floor_laws.proofs.GrowTaken.{by_its_number}
 use Rattle.floor_laws.proofs.ShopAccess.{SameAccess, found_numbered, transfer_access, mode_access, reservation_access, association_access, id_access, map_access}
-use Rattle.floor_laws.proofs.ShopTables.{is_shop_row}
+use Rattle.floor_laws.proofs.ShopTables.{is_shop_row, MayAccess, may_access, takes_none}
 use Rattle.owed_laws.specs.Owed.{owed_to}
 use Rattle.lot_laws.specs.Lot.{IsInJob, Waits, Executes, AtWork}
-use Rattle.lot_laws.proofs.Naming.{use_number, name_there}
 use Rattle.lot_laws.proofs.Standing.{on_base, carried, work-jobs}
 use Rattle.lot_laws.proofs.AtWork.{at_work_of}
 use Rattle.lot_laws.proofs.Works.{WorksOn, works_execute}
+use Rattle.std.proofs.Math.Bool.{or-false}
+use Rattle.floor_laws.proofs.JobJoins.{use_number, name_there}
 
 -- ---- lists
 
@@ -80,8 +79,7 @@ named_of (x ∷ xs) d k only e = of (has_name d.name x) refl (x.number == k) e (
 in_use : (a : Accessing) → access_number a ≤ 1 → is_in_use a ≡ true
 in_use access.NotAccessed l = refl
 in_use access.InAccess l = refl
-in_use access.Complete l = absurd (omega (arith, l))
-in_use access.Stopped l = absurd (omega (arith, l))
+in_use _ l = absurd (omega (arith, l))
 
 -- carriers that a process job names, and that are NOT ACCESSED or IN ACCESS, are so behind a change
 abbrev pub KeepUse : ToolFloor → Floor → Type 0
@@ -145,10 +143,6 @@ module _ (number : ℕ) (counted : ℕ → Bool) (f : ToolFloor) (h : Base f) {b
         both (is_material_here s m) (list_all (is_material_here s) ms)
         (carrier_here k j kept m.carrier (among m (ap (λ (b : Bool). b || list_any (λ (x : Material). bytes_eq x.carrier m.carrier) ms) ((bytes_eq-Decides m.carrier m.carrier).1 refl))) parts.0)
         (of ms (λ i q. among i (or_right (bytes_eq m.carrier i.carrier) (list_any (λ (x : Material). bytes_eq x.carrier i.carrier) ms) q)) parts.1)
-      where
-        or_right : (a b : Bool) → b ≡ true → (a || b) ≡ true
-        or_right true b q = refl
-        or_right false b q = q
 
   -- ---- all of it
 
@@ -184,32 +178,6 @@ module _ (number : ℕ) (counted : ℕ → Bool) (f : ToolFloor) (h : Base f) {b
         subst (λ (a : ℕ). a ≤ 1) (sym now) (keep k.one.carrier k.its d.0 k.known k.of.present d.1 names earlier)
 
 -- ---- table 10
-
--- row 1 ends IN ACCESS
-begins : (x : Accessing) → is_among access_number (access.NotAccessed ∷ []) x ≡ true → access_number (after access_number accessing_table 1 x) ≤ 1
-begins access.NotAccessed among = omega arith
-begins access.InAccess among = absurd (cc)
-begins access.Complete among = absurd (cc)
-begins access.Stopped among = absurd (cc)
-
--- behind the row the carrier is NOT ACCESSED or IN ACCESS, or no process job names it
-abbrev pub MayAccess : ToolFloor → ℕ → Carrier → Type 0
-MayAccess f row c = (access_number (carriers.fires_row 10 row c).states.access ≤ 1) ⊎ (is_any_of_carrier c.name f.jobs ≡ false)
-
-quiet_unnamed : (c : Carrier) (f : ToolFloor) (b : Bool) → (is_quiet c f && b) ≡ true → is_any_of_carrier c.name f.jobs ≡ false
-quiet_unnamed c f b q = not-true _ (and_parts (not (is_any_of_carrier c.name f.jobs)) (are_back c.number f) (and_parts (is_quiet c f) b q).0).0
-
-may_access : (f : ToolFloor) (row : ℕ) (c : Carrier) → (row == 4) ≡ false → accessing_starts row (Some c) f ≡ true → MayAccess f row c
-may_access f row c other starts = of (row_of accessing_table row) refl starts other where
-  of : (o : Option (CarrierRow Accessing)) → row_of accessing_table row ≡ o → found_starts access_number (λ want. accessing_wants want c f) c.states.access o ≡ true → (row == 4) ≡ false → MayAccess f row c
-  of None q w not_four = absurd (true≢false (sym w))
-  of (Some r) q w not_four =
-      let parts = and_parts (is_creation r.by || is_among access_number r.from c.states.access) (accessing_wants r.wants c f) w in
-      let here = found_row (λ (r : CarrierRow Accessing). (is_creation r.by || is_among access_number r.from c.states.access) ≡ true → accessing_wants r.wants c f ≡ true → (r.number == 4) ≡ false → MayAccess f r.number c) accessing_table row r (
-        (λ among wants four. inl (begins c.states.access among)),
-        ((λ among wants four. inr (quiet_unnamed c f _ wants)), ((λ among wants four. inr (quiet_unnamed c f _ wants)), ((λ among wants four. absurd (cc)), tt))),
-      ) q in
-      subst (λ (m : ℕ). (m == 4) ≡ false → MayAccess f m c) here.1 (here.0 parts.0 parts.1) not_four
 
 -- the carriers that are named stay NOT ACCESSED or IN ACCESS behind it
 pub accessing_use : (f : ToolFloor) (n row : ℕ) (c : Carrier) → carrier_numbered n f.shop.carriers ≡ Some c → MayAccess f row c → KeepUse f (with_carrier n (carriers.fires_row 10 row) f.shop)
@@ -255,18 +223,9 @@ module _ (number : ℕ) (counted : ℕ → Bool) (f : ToolFloor) (sound : Sound 
       let g = shop.floor_fired (firing table object row) f.shop in
       (shop-works number counted f sound.base e g leaves.stay (shop_keeps (firing table object row) f.shop s sound.base.shop) (same_use f g same), refl, refl)
 
-  -- a row of table 7 that takes nothing along
-  takes_none : (row port : ℕ) → is_gentle row ≡ true → taken_along row port f ≡ f
-  takes_none row port gentle = of (row == 6) refl where
-    of : (t : Bool) → (row == 6) ≡ t → (if t then without_carrier (owner_number port f.shop) f else f) ≡ f
-    of true is =
-        let same : row ≡ 6 = (Decides-eqb row 6).0 is in
-        absurd (let clash : false ≡ true = sym (ap is_gentle same) ∙ gentle in cc)
-    of false is = refl
-
   association-works : (port row : ℕ) → shop.floor_starts (firing 7 port row) f.shop ≡ true → is_gentle row ≡ true → Keeps (floor_fired (firing 7 port row) f)
   association-works port row s gentle =
-      subst (λ (g : ToolFloor). Keeps (with_shop (shop.floor_fired (firing 7 port row) f.shop) g)) (sym (takes_none row port gentle))
+      subst (λ (g : ToolFloor). Keeps (with_shop (shop.floor_fired (firing 7 port row) f.shop) g)) (sym (takes_none row port f gentle))
       (by_shop 7 port row s (association_leaves f.substrates f.shop port row sound.base.shop sound.ports gentle s) (association_access f.shop port row sound.ports gentle s))
 
   slots-work : (carrier row : ℕ) → shop.floor_starts (firing 9 carrier row) f.shop ≡ true → reaches_verified row ≡ false → Keeps (floor_fired (firing 9 carrier row) f)
@@ -288,7 +247,7 @@ module _ (number : ℕ) (counted : ℕ → Bool) (f : ToolFloor) (sound : Sound 
               (
                 (λ s kind. by_shop 8 x.object x.row.row s (id_leaves f.substrates f.shop x.object x.row.row) (id_access f.shop x.object x.row.row)),
                 (
-                  (λ s kind. slots-work x.object x.row.row s (not-true _ (unverified x.row.row kind))),
+                  (λ s kind. slots-work x.object x.row.row s (not-true _ (sym (or-false (not (reaches_verified x.row.row))) ∙ kind))),
                   (
                     (λ s kind. accessing-works x.object x.row.row (not-true _ kind) s),
                     (
@@ -303,12 +262,6 @@ module _ (number : ℕ) (counted : ℕ → Bool) (f : ToolFloor) (sound : Sound 
         ),
       )
       starts kind
-    where
-      unverified : (row : ℕ) → (not (reaches_verified row) || false) ≡ true → not (reaches_verified row) ≡ true
-      unverified row q = of (not (reaches_verified row)) q where
-        of : (t : Bool) → (t || false) ≡ true → t ≡ true
-        of true q = refl
-        of false q = q
 
 -- so it executes on behind them
 pub shop_row-executes : (number : ℕ) (counted : ℕ → Bool) (f : ToolFloor) → Sound f → Executes number counted f → (x : Firing) → floor_starts x f ≡ true → is_shop_row x ≡ true

@@ -1,7 +1,7 @@
 -- While a control job is at work, what its process jobs say of substrates stands as it does undisturbed.
 use Rattle.std.proofs.Common.{◌≡◌, ℕ, ◌==◌, Bool, true, false, not, ◌&&◌, ◌||◌, Some, refl, sym, ◌∙◌, ap, ◌⊎◌, inl, inr}
 use Rattle.std.specs.List.{AllByRecursion}
-use Rattle.std.proofs.lemmas.Bool.{true≢false, and_parts}
+use Rattle.std.proofs.lemmas.Bool.{true≢false, and_parts, or_parts}
 use Rattle.carrier.specs.declared.carrier.Carrier.{Carrier}
 use Rattle.carrier.specs.Carriers.{carrier_numbered}
 use Rattle.shop_floor.specs.Valid.{IsFloor}
@@ -97,11 +97,6 @@ module _ (f : ToolFloor) (h : IsCarriedOn f) where
 
 -- ---- while it is at work
 
--- one that isn't STOPPING or ABORTING is neither
-neither : (a b : Bool) → (a || b) ≡ false → (a ≡ false) × (b ≡ false)
-neither true b q = absurd (true≢false q)
-neither false b q = (refl, q)
-
 module _ (number : ℕ) (counted : ℕ → Bool) {before : Jobs} (f : ToolFloor) (h : IsCarriedOn f) (e : AtWork number counted before f) where
   -- the job of one that is in one is left in the control job
   pub work-left : (n : ℕ) (s : Substrate) (j : ProcessJob) → substrate_numbered n f.substrates ≡ Some s → job_of s f.jobs ≡ Some j → is_left_in number j.id f.jobs ≡ true
@@ -119,10 +114,10 @@ module _ (number : ℕ) (counted : ℕ → Bool) {before : Jobs} (f : ToolFloor)
     named = λ n kept is left. let s = one_found number_of n f.substrates kept in names n s.0 s.1 left (e.stands n s.0 s.1 is);
   } where
     stops : (n : ℕ) → IsMember f.substrates f.jobs (λ j. is_stopping j.states.state) n → ⊥
-    stops n m = true≢false (sym m.so ∙ (neither (is_stopping m.job.states.state) (is_aborting m.job.states.state) (member_whole n m.one m.job m.found m.its)).0)
+    stops n m = true≢false (sym m.so ∙ (or_parts (is_stopping m.job.states.state) (is_aborting m.job.states.state) (member_whole n m.one m.job m.found m.its)).0)
 
     aborts : (n : ℕ) → IsMember f.substrates f.jobs (λ j. is_aborting j.states.state) n → ⊥
-    aborts n m = true≢false (sym m.so ∙ (neither (is_stopping m.job.states.state) (is_aborting m.job.states.state) (member_whole n m.one m.job m.found m.its)).1)
+    aborts n m = true≢false (sym m.so ∙ (or_parts (is_stopping m.job.states.state) (is_aborting m.job.states.state) (member_whole n m.one m.job m.found m.its)).1)
 
     first_so : (a b : Bool) → (a && b) ≡ true → a ≡ true
     first_so true b q = refl
@@ -146,9 +141,6 @@ module _ (number : ℕ) (counted : ℕ → Bool) {before : Jobs} (f : ToolFloor)
 module _ (number : ℕ) (counted : ℕ → Bool) (f : ToolFloor) (h : IsCarriedOn f) (e : Executes number counted f) where
   pub member_left : (n : ℕ) (s : Substrate) (j : ProcessJob) → substrate_numbered n f.substrates ≡ Some s → job_of s f.jobs ≡ Some j → is_left_in number j.id f.jobs ≡ true
   member_left = work-left number counted f h (at_work_of number counted f e)
-
-  pub jobs_stand : JobsStand counted (picture f)
-  jobs_stand = work-jobs number counted f h (at_work_of number counted f e)
 
   pub undisturbed : Undisturbed counted (picture f)
   undisturbed = work-undisturbed number counted f h (at_work_of number counted f e)

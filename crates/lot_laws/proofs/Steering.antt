@@ -1,8 +1,7 @@
 -- A control job that is at work stays so where the state of a process job changes, where one ends or is created, and where other
 -- control jobs change.
 use Rattle.std.proofs.Common.{◌≡◌, ℕ, ◌+◌, ◌==◌, Bool, true, false, cond, not, ◌&&◌, ◌||◌, List, [], ◌∷◌, Option, Some, None, bytes_eq, refl, sym, ◌∙◌, ap, subst, ◌⊎◌, inl, inr}
-use Rattle.std.specs.List.{list_all}
-use Rattle.std.proofs.lemmas.Bool.{true≢false, and_parts}
+use Rattle.std.proofs.lemmas.Bool.{true≢false}
 use Rattle.gem_tables.specs.Table.{is_one_of, row_of, after, found_starts}
 use Rattle.gem_tables.proofs.Rows.{one_of_cases}
 use Rattle.process_job.specs.Tables.{job_number, job_table}
@@ -12,7 +11,6 @@ use Rattle.process_job.specs.Creating.{create_fault as process_fault}
 use Rattle.process_job.specs.declared.job.ProcessJob.{ProcessJob}
 use Rattle.process_job.specs.declared.job.JobSpec.{JobSpec}
 use Rattle.process_job.proofs.Faults.{is_free}
-use Rattle.records.proofs.Texts.{same_name}
 use Rattle.control_job.specs.Tables.{ControlWant, control_table, states_number}
 use Rattle.control_job.specs.Record as states
 use Rattle.control_job.specs.Record.{is_active}
@@ -21,7 +19,7 @@ use Rattle.control_job.specs.Jobs as control
 use Rattle.control_job.specs.Jobs.{JobStore, owns, is_open, fires_row, fires_at, left_behind, leaves, new_job}
 use Rattle.control_job.specs.declared.job.ControlJob.{ControlJob}
 use Rattle.control_job.specs.declared.record.ControlState.{ControlState}
-use Rattle.control_job.specs.declared.record.ControlState.TheVariants.{Queued, Selected, WaitingForStart, Executing, Paused, Completed}
+use Rattle.control_job.specs.declared.record.ControlState.TheVariants.{Executing, Paused}
 use Rattle.control_job.specs.declared.record.Ending.{Ending}
 use Rattle.control_job.specs.declared.record.Ending.TheVariants.{No, ByStop, ByAbort}
 use Rattle.control_job.specs.declared.record.ControlJobRecord.{ControlJobRecord}
@@ -29,14 +27,14 @@ use Rattle.control_job.proofs.Keeping.{leaves_number, fires_number}
 use Rattle.tool_jobs.specs.Jobs.{Jobs}
 use Rattle.tool_jobs.specs.Wants.{is_ending}
 use Rattle.tool_jobs.specs.Rows.{left_by, ended, control_fired}
-use Rattle.tool_jobs.specs.Together.{AreTogether, is_left_kept}
+use Rattle.tool_jobs.specs.Together.{AreTogether}
 use Rattle.tool_jobs.specs.Creating.{with_process, with_control, control_fault}
 use Rattle.tool_jobs.proofs.Control.{owns_left}
 use Rattle.queue_laws.specs.Started.{is_queued, has_left, is_left_in, AreStarted}
-use Rattle.queue_laws.proofs.Lists.{all_found, number_is, changed_on, changed_back, at_number, gone_back, one_more_back, names_differ}
+use Rattle.queue_laws.proofs.Lists.{number_is, changed_on, changed_back, at_number, gone_back, one_more_back, names_differ}
 use Rattle.queue_laws.proofs.Rows.{start_fits, active_open}
 use Rattle.queue_laws.proofs.Owners.{same_number, is_same, states_left, owns_on}
-use Rattle.queue_laws.proofs.Steering.{left_owned, owned_left}
+use Rattle.queue_laws.proofs.Steering.{left_owned, owned_left, left_known}
 use Rattle.queue_laws.proofs.Starting as started
 use Rattle.lot_laws.specs.Lot.{is_under_way, breaks_off, WasLeft, IsAtWork}
 
@@ -57,22 +55,11 @@ by_working P executes pauses s e = of s.state s.ending e where
   of : (a : ControlState) (b : Ending) → is_working (record { state = a; ending = b }) ≡ true → P (record { state = a; ending = b })
   of Executing No t = executes
   of Paused No t = pauses
+  of _ No t = absurd (true≢false (sym t))
   of Executing ByStop t = absurd (true≢false (sym t))
+  of _ ByStop t = absurd (true≢false (sym t))
   of Executing ByAbort t = absurd (true≢false (sym t))
-  of Paused ByStop t = absurd (true≢false (sym t))
-  of Paused ByAbort t = absurd (true≢false (sym t))
-  of Queued No t = absurd (true≢false (sym t))
-  of Queued ByStop t = absurd (true≢false (sym t))
-  of Queued ByAbort t = absurd (true≢false (sym t))
-  of Selected No t = absurd (true≢false (sym t))
-  of Selected ByStop t = absurd (true≢false (sym t))
-  of Selected ByAbort t = absurd (true≢false (sym t))
-  of WaitingForStart No t = absurd (true≢false (sym t))
-  of WaitingForStart ByStop t = absurd (true≢false (sym t))
-  of WaitingForStart ByAbort t = absurd (true≢false (sym t))
-  of Completed No t = absurd (true≢false (sym t))
-  of Completed ByStop t = absurd (true≢false (sym t))
-  of Completed ByAbort t = absurd (true≢false (sym t))
+  of _ ByAbort t = absurd (true≢false (sym t))
 
 working : (s : ControlJobRecord) → is_working s ≡ true → Working s
 working s e = by_working Working (record { active = refl; not_ending = refl }) (record { active = refl; not_ending = refl }) s e
@@ -96,26 +83,6 @@ stays_working row s one e = one_of_cases (λ (r : ℕ). is_working (states.contr
 ) one
 
 -- ---- one that is kept
-
--- a process job that is left in a control job that isn't COMPLETED is kept
-pub left_known : (w : Jobs) (number : ℕ) (c : ControlJob) (job : List ℕ) → AreTogether w → control.job_numbered number w.control.jobs ≡ Some c → owns job c ≡ true → is_known job w.process.kept ≡ true
-left_known w number c job t at owned =
-    let parts = and_parts (is_open c) (is_in job c.left) owned in
-    named c.left (second (is_open c) (list_all (λ n. is_known n w.process.kept) c.left) parts.0 (all_found (is_left_kept w) (λ d. d.number == number) w.control.jobs c t.kept at)) parts.1
-  where
-    second : (a b : Bool) → a ≡ true → (not a || b) ≡ true → b ≡ true
-    second true b p q = q
-    second false b p q = absurd (true≢false (sym p))
-
-    named : (ns : List (List ℕ)) → list_all (λ n. is_known n w.process.kept) ns ≡ true → is_in job ns ≡ true → is_known job w.process.kept ≡ true
-    named [] f g = absurd (true≢false (sym g))
-    named (n ∷ ns) f g =
-        let both_of = and_parts (is_known n w.process.kept) (list_all (λ x. is_known x w.process.kept) ns) f in
-        by_test (bytes_eq n job) refl g both_of.0 (named ns both_of.1)
-      where
-        by_test : (b : Bool) → bytes_eq n job ≡ b → (b || is_in job ns) ≡ true → is_known n w.process.kept ≡ true → (is_in job ns ≡ true → is_known job w.process.kept ≡ true) → is_known job w.process.kept ≡ true
-        by_test true p q here later = subst (λ (x : List ℕ). is_known x w.process.kept ≡ true) (same_name n job p) here
-        by_test false p q here later = later q
 
 -- ---- a control job of the number
 

@@ -13,7 +13,7 @@ use Rattle.process_job.specs.declared.job.ProcessJob.{ProcessJob}
 use Rattle.tool_jobs.proofs.Rows.{after_meets}
 use Rattle.floor_model.specs.declared.tracked.Substrate.{Substrate}
 use Rattle.floor_model.specs.Floor.{ToolFloor, substrate_numbered, number_of, change_numbered}
-use Rattle.floor_model.specs.Jobs.{job_of, can_join}
+use Rattle.floor_model.specs.Jobs.{can_join}
 use Rattle.floor_model.specs.Substrates.{is_outside}
 use Rattle.floor_model.specs.Machines.{substrate_moves, with_moved}
 use Rattle.floor_moves.specs.Floor as law
@@ -28,13 +28,11 @@ use Rattle.floor_laws.proofs.JobSays.{member_tells}
 use Rattle.floor_laws.proofs.JobLists.{none_first}
 use Rattle.owed_laws.specs.Owed.{owed_to}
 use Rattle.owed_laws.proofs.Agreeing.{agree-undisturbed, agree-owed}
-use Rattle.queue_laws.specs.Started.{is_left_in}
 use Rattle.lot_laws.specs.Lot.{is_in_named_slot, IsInJob, Waits, Executes}
-use Rattle.lot_laws.proofs.Standing.{on_base, Joins, joins_tell, undisturbed}
-
--- a number is 1
-abbrev IsOne : ℕ → Type 0
-IsOne k = k ≡ 1
+use Rattle.lot_laws.proofs.Standing.{on_base, joins_tell, undisturbed}
+use Rattle.place_laws.proofs.Holding.{IsOne, found_among}
+use Rattle.robot_moves.specs.declared.module.Module.{Module as ToolModule}
+use Rattle.owed_laws.specs.Undisturbed.{SubstratesStand}
 
 -- ---- one that is found behind a change of the substrate of a number
 
@@ -54,6 +52,42 @@ found_back n change keeps k ss y e = of (k == n) refl where
     at None g = none_some y (sym (ap (option_map change) (sym (ap (λ (i : ℕ). substrate_numbered i ss) same) ∙ g)) ∙ sym (found_there n change keeps ss) ∙ there)
     at (Some x) g = (x, g, inl (same, sym (some_same (change x) y (sym (ap (option_map change) (sym (ap (λ (i : ℕ). substrate_numbered i ss) same) ∙ g)) ∙ sym (found_there n change keeps ss) ∙ there))))
 
+-- one substrate changes, and maybe the modules
+module _ (number : ℕ) (counted : ℕ → Bool) (f : ToolFloor) (e : Executes number counted f) (n : ℕ) (change : Substrate → Substrate) (keeps : (s : Substrate) → (change s).number ≡ s.number) (jobs : (s : Substrate) → (change s).job ≡ s.job) (ms : List ToolModule) where
+  abbrev changed : ToolFloor
+  changed = record f { substrates = change_numbered n change f.substrates; modules = ms }
+
+  -- it executes on, where who is done stays so, who waits waits on, and what can be taken could be
+  pub change-executes : ((k : ℕ) → (picture changed).jobs.is_member k ≡ (picture f).jobs.is_member k)
+      → ((k : ℕ) → is_one_of (map number_of f.substrates) k ≡ true → is_done k (picture f) ≡ true → is_done k (picture changed) ≡ true)
+      → ((x : Substrate) → substrate_numbered n f.substrates ≡ Some x → (w : Waits number x f) → can_join w.job f.shop (change x) ≡ true)
+      → ((j : ProcessJob) (x : Substrate) → can_join j f.shop (change x) ≡ true → can_join j f.shop x ≡ true)
+      → SubstratesStand counted (picture changed) → Executes number counted changed
+  change-executes members done waits takes stand = record {
+    steers = e.steers;
+    here = e.here;
+    members = λ k is. e.members k (sym (members k) ∙ is);
+    stands = λ k y found is. let x = found_back n change keeps k f.substrates y found in by k y x.0 x.1 x.2 (e.stands k x.0 x.1 is);
+    all = λ k i y j found q left can. let x = found_back n change keeps k f.substrates y found in e.all k i x.0 j x.1 q left (was k j y x.0 x.2 can);
+    substrates = stand;
+  } where
+    Case : ℕ → Substrate → Substrate → Type 0
+    Case k y x = ((k ≡ n) × (y ≡ change x)) ⊎ (((k == n) ≡ false) × (y ≡ x))
+
+    on : (y x : Substrate) (w : Waits number x f) → can_join w.job f.shop y ≡ true → Waits number y changed
+    on y x w can = record { at = w.at; job = w.job; kept = w.kept; left = w.left; queued = w.queued; joins = can }
+
+    by : (k : ℕ) (y x : Substrate) → substrate_numbered k f.substrates ≡ Some x → Case k y x → (is_done k (picture f) ≡ true) ⊎ (IsInJob x f ⊎ Waits number x f) → (is_done k (picture changed) ≡ true) ⊎ (IsInJob y changed ⊎ Waits number y changed)
+    by k y x found c (inl is) = inl (done k (found_among number_of k f.substrates x found) is)
+    by k y x found (inl c) (inr (inl its)) = inr (inl (its.0, ap (λ (i : ℕ). job_numbered i f.jobs.process.kept) (ap (λ (z : Substrate). z.job) c.1 ∙ jobs x) ∙ its.1))
+    by k y x found (inr c) (inr (inl its)) = inr (inl (its.0, ap (λ (z : Substrate). job_numbered z.job f.jobs.process.kept) c.1 ∙ its.1))
+    by k y x found (inl c) (inr (inr w)) = inr (inr (on y x w (ap (can_join w.job f.shop) c.1 ∙ waits x (ap (λ (i : ℕ). substrate_numbered i f.substrates) (sym c.0) ∙ found) w)))
+    by k y x found (inr c) (inr (inr w)) = inr (inr (on y x w (ap (can_join w.job f.shop) c.1 ∙ w.joins)))
+
+    was : (k : ℕ) (j : ProcessJob) (y x : Substrate) → Case k y x → can_join j f.shop y ≡ true → can_join j f.shop x ≡ true
+    was k j y x (inl c) can = takes j x (sym (ap (can_join j f.shop) c.1) ∙ can)
+    was k j y x (inr c) can = sym (ap (can_join j f.shop) c.1) ∙ can
+
 -- ---- states
 
 -- what isn't AT SOURCE isn't behind a row
@@ -71,8 +105,7 @@ source_before row transport.AtDestination e = absurd (true≢false (sym (true_no
 -- AT SOURCE stays so behind another row than 2
 source_stays : (row : ℕ) (t : Transport) → (row == 2) ≡ false → is_at_source t ≡ true → is_at_source (after transport_number transport_table row t) ≡ true
 source_stays row transport.AtSource two e = after_meets transport_number is_at_source (λ n. n == 2) row transport.AtSource transport_table two refl refl
-source_stays row transport.AtWork two e = absurd (true≢false (sym e))
-source_stays row transport.AtDestination two e = absurd (true≢false (sym e))
+source_stays row _ two e = absurd (true≢false (sym e))
 
 module _ (number : ℕ) (counted : ℕ → Bool) (f : ToolFloor) (h : Sound f) (e : Executes number counted f) (n row : ℕ) where
   -- what the table of transport changes isn't looked at by numbers
@@ -113,53 +146,28 @@ module _ (number : ℕ) (counted : ℕ → Bool) (f : ToolFloor) (h : Sound f) (
         in_none : (j : ProcessJob) → job_numbered 0 f.jobs.process.kept ≡ Some j → ⊥
         in_none j g = none_some j (sym (none_first f.jobs.process.given f.jobs.process.kept h.base.jobs.numbered) ∙ g)
 
-    waits_on : (k : ℕ) (x : Substrate) → substrate_numbered k f.substrates ≡ Some x → k ≡ n → Waits number x f → Waits number (substrate_moves 12 row x) (with_moved 12 row n f)
-    waits_on k x found same w = record { at = w.at; job = w.job; kept = w.kept; left = w.left; queued = w.queued; joins = joins } where
-      tells : Joins w.job f x
-      tells = joins_tell w.job f x w.joins
-
-      other : (b : Bool) → (row == 2) ≡ b → b ≡ false
-      other false q = refl
-      other true q = absurd (not_outside k x found w (starts x (subst (λ (i : ℕ). substrate_numbered i f.substrates ≡ Some x) same found) q))
-
-      joins : can_join w.job f.shop (substrate_moves 12 row x) ≡ true
-      joins =
-          both (is_at_source (after transport_number transport_table row x.states.transport) && is_needing x.states.processing) ((x.job == 0) && is_in_named_slot w.job f.shop x)
-          (both (is_at_source (after transport_number transport_table row x.states.transport)) (is_needing x.states.processing) (source_stays row x.states.transport (other (row == 2) refl) tells.source) tells.needs)
-          (both (x.job == 0) (is_in_named_slot w.job f.shop x) tells.free tells.named)
+    waits_on : (x : Substrate) → substrate_numbered n f.substrates ≡ Some x → (w : Waits number x f) → can_join w.job f.shop (substrate_moves 12 row x) ≡ true
+    waits_on x found w =
+        let tells = joins_tell w.job f x w.joins in
+        both (is_at_source (after transport_number transport_table row x.states.transport) && is_needing x.states.processing) ((x.job == 0) && is_in_named_slot w.job f.shop x)
+        (both (is_at_source (after transport_number transport_table row x.states.transport)) (is_needing x.states.processing) (source_stays row x.states.transport (other (row == 2) refl) tells.source) tells.needs)
+        (both (x.job == 0) (is_in_named_slot w.job f.shop x) tells.free tells.named)
+      where
+        other : (b : Bool) → (row == 2) ≡ b → b ≡ false
+        other false q = refl
+        other true q = absurd (not_outside n x found w (starts x found q))
 
     -- table 12
     pub transport-executes : Executes number counted (with_moved 12 row n f) × (owed_to counted (picture (with_moved 12 row n f)) ≡ owed_to counted (picture f))
     transport-executes = (
-      record {
-        steers = e.steers;
-        here = e.here;
-        members = λ k is. e.members k (sym (moved_agrees.jobs.is_member k) ∙ is);
-        stands = λ k y found is. let b = found_back n (substrate_moves 12 row) (λ s. refl) k f.substrates y found in stands k y b.0 b.1 b.2 (e.stands k b.0 b.1 is);
-        all = λ k i y j found q left can. let b = found_back n (substrate_moves 12 row) (λ s. refl) k f.substrates y found in takes k i y j b.0 b.1 b.2 q left can;
-        substrates = (agree-undisturbed (picture f) (picture (with_moved 12 row n f)) moved_agrees counted h.valid (undisturbed number counted f (on_base f h.base) e)).substrates;
-      },
+      change-executes number counted f e n (substrate_moves 12 row) (λ x. refl) (λ x. refl) f.modules moved_agrees.jobs.is_member
+          (λ k kept done. ap (λ (p : ℕ). law.is_finished p && not (law.is_outside ((picture f).place_of k))) (moved_agrees.processing k kept) ∙ done) waits_on takes
+          (agree-undisturbed (picture f) (picture (with_moved 12 row n f)) moved_agrees counted h.valid (undisturbed number counted f (on_base f h.base) e)).substrates,
       agree-owed (picture f) (picture (with_moved 12 row n f)) moved_agrees counted,
     ) where
-      done_same : (k : ℕ) → is_done k (picture (with_moved 12 row n f)) ≡ is_done k (picture f)
-      done_same k = ap (λ (p : ℕ). law.is_finished p && not (law.is_outside ((picture f).place_of k))) (says_same n (substrate_moves 12 row) (λ s. refl) 0 (λ (s : Substrate). processing_number s.states.processing) (λ s. refl) k f.substrates)
-
-      Case : ℕ → Substrate → Substrate → Type 0
-      Case k y x = ((k ≡ n) × (y ≡ substrate_moves 12 row x)) ⊎ (((k == n) ≡ false) × (y ≡ x))
-
-      stands : (k : ℕ) (y x : Substrate) → substrate_numbered k f.substrates ≡ Some x → Case k y x → (is_done k (picture f) ≡ true) ⊎ (IsInJob x f ⊎ Waits number x f)
-          → (is_done k (picture (with_moved 12 row n f)) ≡ true) ⊎ (IsInJob y (with_moved 12 row n f) ⊎ Waits number y (with_moved 12 row n f))
-      stands k y x found case (inl done) = inl (done_same k ∙ done)
-      stands k y x found (inl c) (inr (inl its)) = inr (inl (its.0, ap (λ (z : Substrate). job_of z f.jobs) c.1 ∙ its.1))
-      stands k y x found (inr c) (inr (inl its)) = inr (inl (its.0, ap (λ (z : Substrate). job_of z f.jobs) c.1 ∙ its.1))
-      stands k y x found (inl c) (inr (inr w)) = inr (inr (subst (λ (z : Substrate). Waits number z (with_moved 12 row n f)) (sym c.1) (waits_on k x found c.0 w)))
-      stands k y x found (inr c) (inr (inr w)) = inr (inr (subst (λ (z : Substrate). Waits number z (with_moved 12 row n f)) (sym c.1) (record { at = w.at; job = w.job; kept = w.kept; left = w.left; queued = w.queued; joins = w.joins })))
-
-      takes : (k i : ℕ) (y : Substrate) (j : ProcessJob) (x : Substrate) → substrate_numbered k f.substrates ≡ Some x → Case k y x → job_numbered i f.jobs.process.kept ≡ Some j → is_left_in number j.id f.jobs ≡ true → can_join j f.shop y ≡ true → counted k ≡ true
-      takes k i y j x found (inr c) q left can = e.all k i x j found q left (subst (λ (z : Substrate). can_join j f.shop z ≡ true) c.1 can)
-      takes k i y j x found (inl c) q left can =
-          let tells = joins_tell j f (substrate_moves 12 row x) (subst (λ (z : Substrate). can_join j f.shop z ≡ true) c.1 can) in
-          e.all k i x j found q left
-          (both (is_at_source x.states.transport && is_needing x.states.processing) ((x.job == 0) && is_in_named_slot j f.shop x)
+      takes : (j : ProcessJob) (x : Substrate) → can_join j f.shop (substrate_moves 12 row x) ≡ true → can_join j f.shop x ≡ true
+      takes j x can =
+          let tells = joins_tell j f (substrate_moves 12 row x) can in
+          both (is_at_source x.states.transport && is_needing x.states.processing) ((x.job == 0) && is_in_named_slot j f.shop x)
           (both (is_at_source x.states.transport) (is_needing x.states.processing) (source_before row x.states.transport tells.source) tells.needs)
-          (both (x.job == 0) (is_in_named_slot j f.shop x) tells.free tells.named))
+          (both (x.job == 0) (is_in_named_slot j f.shop x) tells.free tells.named)

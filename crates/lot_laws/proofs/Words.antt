@@ -46,6 +46,7 @@ use Rattle.lot_laws.proofs.Going.{behind_owed, controls-work}
 use Rattle.lot_laws.proofs.Processes.{state-work, ended-work, fifteen_is, queued_done}
 use Rattle.lot_laws.proofs.Inputs.{created-work, added-work, headed-work}
 use Rattle.lot_laws.proofs.Disturbs.{disturbed-fired, disturbed-ended, disturbed-created, disturbed-behind, disturbed-added, disturbed-headed}
+use Rattle.std.proofs.Math.Bool.{or-false}
 
 -- ---- states
 
@@ -77,8 +78,7 @@ module _ (finds : JobWant → Bool) where
   stop_breaks state.Paused e = refl
   stop_breaks state.Stopping e = refl
   stop_breaks state.Aborting e = refl
-  stop_breaks state.Queued e = absurd (true≢false (sym e))
-  stop_breaks state.Complete e = absurd (true≢false (sym e))
+  stop_breaks _ e = absurd (true≢false (sym e))
 
   abort_breaks : (s : JobState) → found_starts job_number finds s (row_of job_table 12) ≡ true → breaks_off (after job_number job_table 12 s) ≡ true
   abort_breaks state.SettingUp e = refl
@@ -88,13 +88,10 @@ module _ (finds : JobWant → Bool) where
   abort_breaks state.Paused e = refl
   abort_breaks state.Stopping e = refl
   abort_breaks state.Aborting e = refl
-  abort_breaks state.Queued e = absurd (true≢false (sym e))
-  abort_breaks state.Complete e = absurd (true≢false (sym e))
+  abort_breaks _ e = absurd (true≢false (sym e))
 
   -- CANCEL starts at one that is QUEUED
   cancel_whole : (s : JobState) → found_starts job_number finds s (row_of job_table 15) ≡ true → breaks_off s ≡ false
-  cancel_whole state.Stopping e = absurd (true≢false (sym e))
-  cancel_whole state.Aborting e = absurd (true≢false (sym e))
   cancel_whole state.Queued e = refl
   cancel_whole state.SettingUp e = refl
   cancel_whole state.WaitingForStart e = refl
@@ -102,24 +99,18 @@ module _ (finds : JobWant → Bool) where
   cancel_whole state.Complete e = refl
   cancel_whole state.Pausing e = refl
   cancel_whole state.Paused e = refl
+  cancel_whole _ e = absurd (true≢false (sym e))
 
   -- what starts there are rows 1, 2, 15 and 16
   starts_queued : (row : ℕ) (s : JobState) → is_queued s ≡ true → found_starts job_number finds s (row_of job_table row) ≡ true → is_one_of (1 ∷ 2 ∷ 15 ∷ 16 ∷ []) row ≡ true
   starts_queued row state.Queued q e = start_fits job_number finds (λ w. false) (is_one_of (1 ∷ 2 ∷ 15 ∷ 16 ∷ [])) job_table row state.Queued (λ w g. absurd (true≢false (sym g))) refl e
-  starts_queued row state.SettingUp q e = absurd (true≢false (sym q))
-  starts_queued row state.WaitingForStart q e = absurd (true≢false (sym q))
-  starts_queued row state.Processing q e = absurd (true≢false (sym q))
-  starts_queued row state.Complete q e = absurd (true≢false (sym q))
-  starts_queued row state.Pausing q e = absurd (true≢false (sym q))
-  starts_queued row state.Paused q e = absurd (true≢false (sym q))
-  starts_queued row state.Stopping q e = absurd (true≢false (sym q))
-  starts_queued row state.Aborting q e = absurd (true≢false (sym q))
+  starts_queued row _ q e = absurd (true≢false (sym q))
 
 -- the words of a process job, and those of a control job
-abbrev process_words : List ℕ
+abbrev pub process_words : List ℕ
 process_words = 1 ∷ 5 ∷ 8 ∷ 10 ∷ 11 ∷ 12 ∷ 15 ∷ []
 
-abbrev control_words : List ℕ
+abbrev pub control_words : List ℕ
 control_words = 1 ∷ 5 ∷ 6 ∷ 7 ∷ 9 ∷ 10 ∷ 11 ∷ 12 ∷ []
 
 module _ (number : ℕ) (counted : ℕ → Bool) (before f : ToolFloor) (h : Sound f) (t : AreTogether f.jobs) (s : AreStarted f.jobs) where
@@ -270,10 +261,6 @@ module _ (number : ℕ) (counted : ℕ → Bool) (before f : ToolFloor) (h : Sou
 
   -- ---- all of them
 
-  or_none : (b : Bool) → (b || false) ≡ true → b ≡ true
-  or_none true q = refl
-  or_none false q = q
-
   process_at : Goes f → (n row : ℕ) → is_one_of process_words row ≡ true → floor_starts (firing 14 n row) f ≡ true → Goes (floor_fired (firing 14 n row) f)
   process_at goes n row one starts = of (job_numbered n f.jobs.process.kept) refl starts where
     of : (o : Option ProcessJob) → job_numbered n f.jobs.process.kept ≡ o → process_starts row o (found_sight o f) f.jobs ≡ true → Goes (floor_fired (firing 14 n row) f)
@@ -307,7 +294,7 @@ module _ (number : ℕ) (counted : ℕ → Bool) (before f : ToolFloor) (h : Sou
                     (λ st k. absurd (cc)),
                     (
                       (λ st k. absurd (cc)),
-                      ((λ st k. process_at goes x.object x.row.row (or_none (is_one_of process_words x.row.row) k) st), ((λ st k. control_at goes x.object x.row.row k st), ((λ st k. absurd (cc)), tt))),
+                      ((λ st k. process_at goes x.object x.row.row (sym (or-false (is_one_of process_words x.row.row)) ∙ k) st), ((λ st k. control_at goes x.object x.row.row k st), ((λ st k. absurd (cc)), tt))),
                     ),
                   ),
                 ),

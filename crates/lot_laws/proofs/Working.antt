@@ -30,16 +30,7 @@ use Rattle.owed_laws.proofs.Columns.{worked-stays}
 use Rattle.lot_laws.specs.Lot.{Executes}
 use Rattle.lot_laws.proofs.Standing.{on_base, undisturbed}
 use Rattle.lot_laws.proofs.Done.{state_behind, worked-executes, worked_owed}
-
-needs_it : (p : Processing) → is_among processing_number (processing.NeedsProcessing ∷ []) p ≡ true → p ≡ processing.NeedsProcessing
-needs_it processing.NeedsProcessing e = refl
-needs_it processing.InProcess e = absurd (cc)
-needs_it processing.Processed e = absurd (cc)
-needs_it processing.Aborted e = absurd (cc)
-needs_it processing.Stopped e = absurd (cc)
-needs_it processing.Rejected e = absurd (cc)
-needs_it processing.Lost e = absurd (cc)
-needs_it processing.Skipped e = absurd (cc)
+use Rattle.floor_laws.proofs.EndRows.{is_needing}
 
 module _ (number : ℕ) (counted : ℕ → Bool) (f : ToolFloor) (sound : Sound f) (e : Executes number counted f) (n : ℕ) where
   abbrev Keeps : ToolFloor → Type 0
@@ -70,7 +61,7 @@ module _ (number : ℕ) (counted : ℕ → Bool) (f : ToolFloor) (sound : Sound 
 
     two : is_among processing_number (processing.NeedsProcessing ∷ []) s.states.processing ≡ true → list_any (processes s.sub) f.modules ≡ true → Keeps (with_moved 13 2 n f)
     two among names =
-        let needs = needs_it s.states.processing among in
+        let needs = is_needing s.states.processing among in
         let goes : state_behind 2 s ≡ 1 = ap (λ (p : Processing). processing_number (after processing_number processing_table 2 p)) needs in
         let unfinished : law.is_finished ((picture f).processing n) ≡ false = ap (λ (o : Option Substrate). law.is_finished (of_one 0 (λ (x : Substrate). processing_number x.states.processing) o)) known ∙ ap (λ (p : Processing). law.is_finished (processing_number p)) needs in
         let its = processes_busy f sound.base sound.valid.commands n s known names in

@@ -5,16 +5,10 @@ use Rattle.std.proofs.lemmas.Bool.{or_from}
 use Rattle.std.proofs.lemmas.Bool.Decides.{Decides-eqb}
 use Rattle.gem_tables.specs.Table.{is_one_of}
 use Rattle.gem_ids.specs.declared.numbers.LocId.{LocId}
-use Rattle.gem_ids.specs.declared.numbers.LocId.TheVariants.{Slot}
 use Rattle.gem_ids.specs.declared.numbers.PortNo.{PortNo}
-use Rattle.gem_ids.specs.declared.numbers.SlotNo.{SlotNo}
 use Rattle.carrier.specs.declared.carrier.Carrier.{Carrier}
 use Rattle.carrier.specs.Carriers.{carrier_numbered, is_port, is_present_at}
 use Rattle.shop_floor.proofs.Apart.{found_passes}
-use Rattle.substrate.specs.Tables.{processing_number}
-use Rattle.substrate.specs.Record.{is_in_process}
-use Rattle.substrate.specs.declared.record.Processing.{Processing}
-use Rattle.substrate.specs.declared.record.Processing.TheVariants as processing
 use Rattle.floor_model.specs.declared.tracked.Substrate.{Substrate}
 use Rattle.floor_model.specs.Floor.{ToolFloor, substrate_numbered, number_of}
 use Rattle.floor_model.specs.Floor.{RiseTo}
@@ -23,7 +17,7 @@ use Rattle.floor_moves.specs.Valid.{IsDistinct}
 use Rattle.place_laws.specs.Picture.{picture, loc_of, port_in, slot_in, port_number, where_present, of_one}
 use Rattle.place_laws.specs.Standing.{IsOf, IsCarried, AreApart}
 
-abbrev IsOne : ℕ → Type 0
+abbrev pub IsOne : ℕ → Type 0
 IsOne k = k ≡ 1
 
 -- ---- one that is found
@@ -101,14 +95,6 @@ one_of_slot n m (x ∷ xs) s t apart e f same = of (x.number == n) (x.number == 
       absurd (true_of_found number_of n (λ (y : Substrate). x.slot ≡ y.slot → ⊥) xs s apart.0 e (ap (λ (y : Substrate). y.slot) one ∙ sym same))
   of false false e f rest = rest e f
 
--- where places are those of slots, the slots are the same where the places are
-pub same_slot : (a b : LocId) (p q : PortNo) (k l : SlotNo) → a ≡ Slot p k → b ≡ Slot q l → loc_of a ≡ loc_of b → a ≡ b
-same_slot a b p q k l e f same =
-    let places : slot p.0 k.0 ≡ slot q.0 l.0 = sym (ap loc_of e) ∙ same ∙ ap loc_of f in
-    let port : p ≡ q = ap (λ (n : ℕ). record { 0 = n }) (let n : p.0 ≡ q.0 = cc in n) in
-    let number : k ≡ l = ap (λ (n : ℕ). record { 0 = n }) (let n : k.0 ≡ l.0 = cc in n) in
-    e ∙ ap (λ (x : PortNo). Slot x k) port ∙ ap (λ (x : SlotNo). Slot q x) number ∙ sym f
-
 -- ---- carriers
 
 -- a carrier that is present at a port is present there
@@ -120,17 +106,6 @@ present_there c p e = of c.present c.port e where
   of false o e = absurd (cc)
 
 -- ---- work
-
--- a state of the number of IN PROCESS is IN PROCESS
-pub not_in_process : (p : Processing) → is_in_process p ≡ false → processing_number p ≡ 1 → ⊥
-not_in_process processing.NeedsProcessing e one = let z : IsOne 0 = one in omega (arith, z)
-not_in_process processing.InProcess e one = cc
-not_in_process processing.Processed e one = let z : IsOne 2 = one in omega (arith, z)
-not_in_process processing.Aborted e one = let z : IsOne 3 = one in omega (arith, z)
-not_in_process processing.Stopped e one = let z : IsOne 4 = one in omega (arith, z)
-not_in_process processing.Rejected e one = let z : IsOne 5 = one in omega (arith, z)
-not_in_process processing.Lost e one = let z : IsOne 6 = one in omega (arith, z)
-not_in_process processing.Skipped e one = let z : IsOne 7 = one in omega (arith, z)
 
 -- ---- all of it
 

@@ -1,14 +1,13 @@
 -- What the rows of the load ports and the carriers leave of the substrates: the carriers of substrates stay, and so does what is
 -- registered of each.
-use Rattle.std.proofs.Common.{◌≡◌, ℕ, suc, ◌==◌, Bool, true, false, not, ◌&&◌, if◌then◌else◌, List, length, Option, Some, None, is_some, slice_get, refl, sym, ◌∙◌, ap, subst}
+use Rattle.std.proofs.Common.{arith, ◌≡◌, ℕ, suc, ◌==◌, Bool, true, false, not, ◌&&◌, if◌then◌else◌, List, length, Option, Some, None, is_some, slice_get, refl, sym, ◌∙◌, ap, subst}
 use Rattle.std.specs.List.{AllByRecursion}
 use Rattle.std.proofs.lemmas.Bool.{or_parts}
-use Rattle.std.proofs.lemmas.Bool.Decides.{Decides-eqb}
+use Rattle.std.proofs.lemmas.Bool.Decides.{nat_tests}
 use Rattle.gem_tables.specs.Table.{after}
 use Rattle.load_port.specs.declared.port.Port.{Port}
 use Rattle.load_port.specs.declared.port.Arrival.{Arrival}
 use Rattle.load_port.specs.Ports as ports
-use Rattle.load_port.specs.Ports.{port_numbered, change_port}
 use Rattle.carrier.specs.declared.carrier.Carrier.{Carrier}
 use Rattle.carrier.specs.declared.record.IdState.{IdState}
 use Rattle.carrier.specs.declared.record.MapState.{MapState}
@@ -44,10 +43,8 @@ and_false true = refl
 and_false false = refl
 
 pub still_verified : (row : ℕ) (m : MapState) → is_map_verified m ≡ true → is_map_verified (after map_number map_table row m) ≡ true
-still_verified row slots.NotRead v = absurd (cc)
-still_verified row slots.WaitingForHost v = absurd (cc)
 still_verified row slots.Verified v = rw (and_false (1 == row), and_false (2 == row), and_false (3 == row), and_false (4 == row)) refl
-still_verified row slots.VerificationFailed v = absurd (cc)
+still_verified row _ v = absurd (cc)
 
 -- the state behind, by which of the rows it is
 behind_not_read : (one two : Bool) → one ≡ false → is_map_verified (if one && true then slots.Verified else (if two && true then slots.WaitingForHost else slots.NotRead)) ≡ false
@@ -60,14 +57,9 @@ behind_waiting true four e = absurd (cc)
 behind_waiting false true e = refl
 behind_waiting false false e = refl
 
-swapped : (n m : ℕ) → (n == m) ≡ false → (m == n) ≡ false
-swapped n m e = of (m == n) refl where
-  of : (b : Bool) → (m == n) ≡ b → (m == n) ≡ false
-  of true f =
-      let same : n ≡ m = sym ((Decides-eqb m n).0 f) in
-      let t = (Decides-eqb n m).1 same in
-      absurd (let clash : true ≡ false = sym t ∙ e in cc)
-  of false f = f
+-- numbers that differ differ the other way round
+pub swapped : (n m : ℕ) → (n == m) ≡ false → (m == n) ≡ false
+swapped n m e = grind (arith, nat_tests, e)
 
 not_newly : (row : ℕ) (m : MapState) → reaches_verified row ≡ false → is_map_verified (after map_number map_table row m) ≡ true → is_map_verified m ≡ true
 not_newly row slots.NotRead other v =

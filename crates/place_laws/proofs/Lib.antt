@@ -19,3 +19,4 @@ pub mod UnloadStates
 pub mod UnloadPorts
 pub mod UnloadRows
 pub mod UnloadRequests
+pub mod Names

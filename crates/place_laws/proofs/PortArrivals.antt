@@ -5,7 +5,7 @@ use Rattle.std.proofs.lemmas.Bool.Decides.{nat_tests}
 use Rattle.load_port.specs.declared.port.Port.{Port}
 use Rattle.load_port.specs.declared.port.Arrival.{Arrival}
 use Rattle.load_port.specs.declared.record.Transfer.{Transfer}
-use Rattle.load_port.specs.declared.record.Transfer.TheVariants.{OutOfService, TransferBlocked, ReadyToLoad, ReadyToUnload}
+use Rattle.load_port.specs.declared.record.Transfer.TheVariants.{TransferBlocked, ReadyToUnload}
 use Rattle.load_port.specs.Record.{is_occupied, is_blocked}
 use Rattle.carrier.specs.declared.carrier.Carrier.{Carrier}
 use Rattle.carrier.specs.Carriers.{change_named, found_or_created, next_number, came_to}
@@ -18,10 +18,9 @@ use Rattle.place_laws.proofs.Away.{all_forgets, away_forgets}
 use Rattle.place_laws.proofs.PortChanges.{IsHeldHere, IsHeldElse, change-at-ports, carriers-at-ports}
 
 blocked_occupied : (t : Transfer) → is_blocked t ≡ true → is_occupied t ≡ true
-blocked_occupied OutOfService e = absurd (cc)
 blocked_occupied TransferBlocked e = refl
-blocked_occupied ReadyToLoad e = absurd (cc)
 blocked_occupied ReadyToUnload e = refl
+blocked_occupied _ e = absurd (cc)
 
 -- rows 3 and 5: the carrier is found or created
 pub arrived-at-ports : (place : ℕ) (f : Floor) (p : Port) (a : Arrival) → slice_get f.ports place ≡ Some p → p.arrival ≡ Some a → AtPorts f → AtPorts (arrived (suc place) (Some a) f)

@@ -10,7 +10,6 @@ use Rattle.load_port.specs.declared.record.Association.TheVariants.{NotAssociate
 use Rattle.load_port.specs.Record.{is_associated}
 use Rattle.load_port.specs.Tables.{transfer_number, association_number}
 use Rattle.load_port.specs.Ports as ports
-use Rattle.load_port.specs.Ports.{port_numbered}
 use Rattle.carrier.specs.declared.carrier.Carrier.{Carrier}
 use Rattle.carrier.specs.Carriers.{has_name, is_port}
 use Rattle.shop_floor.specs.Floor.{Floor, floor_of}

@@ -41,27 +41,19 @@ opening-at-ports n = record {
 
 pub among_out : (t : Transfer) → is_among transfer_number (OutOfService ∷ []) t ≡ true → t ≡ OutOfService
 among_out OutOfService e = refl
-among_out TransferBlocked e = absurd (cc)
-among_out ReadyToLoad e = absurd (cc)
-among_out ReadyToUnload e = absurd (cc)
+among_out _ e = absurd (cc)
 
 pub among_blocked : (t : Transfer) → is_among transfer_number (TransferBlocked ∷ []) t ≡ true → t ≡ TransferBlocked
-among_blocked OutOfService e = absurd (cc)
 among_blocked TransferBlocked e = refl
-among_blocked ReadyToLoad e = absurd (cc)
-among_blocked ReadyToUnload e = absurd (cc)
+among_blocked _ e = absurd (cc)
 
 pub among_loadable : (t : Transfer) → is_among transfer_number (ReadyToLoad ∷ []) t ≡ true → t ≡ ReadyToLoad
-among_loadable OutOfService e = absurd (cc)
-among_loadable TransferBlocked e = absurd (cc)
 among_loadable ReadyToLoad e = refl
-among_loadable ReadyToUnload e = absurd (cc)
+among_loadable _ e = absurd (cc)
 
 pub among_unloadable : (t : Transfer) → is_among transfer_number (ReadyToUnload ∷ []) t ≡ true → t ≡ ReadyToUnload
-among_unloadable OutOfService e = absurd (cc)
-among_unloadable TransferBlocked e = absurd (cc)
-among_unloadable ReadyToLoad e = absurd (cc)
 among_unloadable ReadyToUnload e = refl
+among_unloadable _ e = absurd (cc)
 
 -- ---- rows 1 and 2: nobody is there, and nothing is awaited
 

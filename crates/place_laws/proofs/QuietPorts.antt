@@ -19,7 +19,7 @@ use Rattle.shop_floor.proofs.Belonging.{all_at}
 -- ---- nothing is ready
 
 -- neither of two choices gives anything
-neither : {A : Type 0} (first second : Option A) → option_or first second ≡ None → (first ≡ None) × (second ≡ None)
+pub neither : {A : Type 0} (first second : Option A) → option_or first second ≡ None → (first ≡ None) × (second ≡ None)
 neither None second e = (refl, e)
 neither (Some x) second e = absurd (cc)
 
@@ -41,7 +41,7 @@ at_number P first zero n (q ∷ qs) p e all s = let same : first ≡ n = omega (
 at_number P first (suc place) n (q ∷ qs) p e all s = at_number P (first + 1) place n qs p (omega (arith, e)) all.1 s
 
 -- no row of a table is
-no_row : {S W E : Type 0} (number : S → ℕ) (finds : W → Bool) (rows : List (Row S W E)) (state : S) → first_itself number finds rows state ≡ None
+pub no_row : {S W E : Type 0} (number : S → ℕ) (finds : W → Bool) (rows : List (Row S W E)) (state : S) → first_itself number finds rows state ≡ None
     → AllByRecursion (λ (r : Row S W E). (is_itself r.by && (is_among number r.from state && finds r.wants)) ≡ false) rows
 no_row number finds [] state e = tt
 no_row number finds (r ∷ rows) state e = of (is_itself r.by && (is_among number r.from state && finds r.wants)) refl e (no_row number finds rows state) where

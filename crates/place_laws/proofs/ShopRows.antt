@@ -44,10 +44,6 @@ module _ (ss : List Substrate) (f : Floor) where
       let left = ports_leave 6 port row in
       looked_for (λ (o : Option (PortRow Reservation)). Leaves ss f (with_port port (ports.fires_row 6 row) (found_does o port f))) reservation_table row left (left, (left, (left, tt)))
 
-  -- a row that is not one of those here
-  not_gentle : {P : Type 0} → true ≡ false → P
-  not_gentle e = absurd (cc)
-
   pub association_leaves : (port row : ℕ) → IsFloor f → AtPorts f → is_gentle row ≡ true → floor_starts (firing 7 port row) f ≡ true → Leaves ss f (floor_fired (firing 7 port row) f)
   association_leaves port row valid at gentle starts =
       starts_at_port association_number association_table (λ s. s.association) (λ to s. record s { association = to })

@@ -16,7 +16,7 @@ use Rattle.load_port.specs.Ports as ports
 use Rattle.load_port.specs.Ports.{port_numbered, change_port}
 use Rattle.carrier.specs.declared.carrier.Carrier.{Carrier}
 use Rattle.carrier.specs.Carriers as carriers
-use Rattle.carrier.specs.Carriers.{carrier_numbered, change_named, found_or_created, next_number, came_to, binds, marks}
+use Rattle.carrier.specs.Carriers.{carrier_numbered, change_named, found_or_created, came_to, binds, marks}
 use Rattle.shop_floor.specs.Floor.{Floor, with_port, with_carrier, with_marked}
 use Rattle.shop_floor.specs.Rows.{freed, owned_by, taken_by, owner, forgets, is_directed, bound_to, binding, forgetting, without_owner, arrival_at, arrived, arriving, is_own, found_does}
 use Rattle.shop_floor.specs.Machines.{floor_machines, floor_starts, floor_fired}

@@ -23,28 +23,21 @@ use Rattle.place_laws.specs.Ports.{IsReadById}
 -- ---- no row leaves these states
 
 still_id : (row : ℕ) (s : IdState) → is_id_verified s ≡ true → is_id_verified (after id_number id_table row s) ≡ true
-still_id row id.NotRead e = absurd (cc)
-still_id row id.WaitingForHost e = absurd (cc)
 still_id row id.Verified e = rw (and-false (1 == row), and-false (2 == row), and-false (3 == row), and-false (4 == row), and-false (5 == row)) refl
-still_id row id.VerificationFailed e = absurd (cc)
+still_id row _ e = absurd (cc)
 
 failed_id : (row : ℕ) (s : IdState) → is_id_failed s ≡ true → is_id_failed (after id_number id_table row s) ≡ true
-failed_id row id.NotRead e = absurd (cc)
-failed_id row id.WaitingForHost e = absurd (cc)
-failed_id row id.Verified e = absurd (cc)
 failed_id row id.VerificationFailed e = rw (and-false (1 == row), and-false (2 == row), and-false (3 == row), and-false (4 == row), and-false (5 == row)) refl
+failed_id row _ e = absurd (cc)
 
 failed_map : (row : ℕ) (s : MapState) → is_map_failed s ≡ true → is_map_failed (after map_number map_table row s) ≡ true
-failed_map row slots.NotRead e = absurd (cc)
-failed_map row slots.WaitingForHost e = absurd (cc)
-failed_map row slots.Verified e = absurd (cc)
 failed_map row slots.VerificationFailed e = rw (and-false (1 == row), and-false (2 == row), and-false (3 == row), and-false (4 == row)) refl
+failed_map row _ e = absurd (cc)
 
 still_done : (row : ℕ) (a : Accessing) → is_done a ≡ true → is_done (after access_number accessing_table row a) ≡ true
-still_done row access.NotAccessed e = absurd (cc)
-still_done row access.InAccess e = absurd (cc)
 still_done row access.Complete e = rw (and-false (1 == row), and-false (2 == row), and-false (3 == row), and-false (4 == row)) refl
 still_done row access.Stopped e = rw (and-false (1 == row), and-false (2 == row), and-false (3 == row), and-false (4 == row)) refl
+still_done row _ e = absurd (cc)
 
 -- ---- a carrier that has finished
 

@@ -1,7 +1,7 @@
 -- What an action of the host writes leaves the substrates; a carrier whose binding is cancelled is not present.
 use Rattle.std.proofs.Common.{◌≡◌, ℕ, Bool, true, false, not, ◌||◌, List, map, Option, Some, None, refl, sym, ◌∙◌, ap, subst}
 use Rattle.std.specs.List.{AllByRecursion}
-use Rattle.std.proofs.lemmas.Bool.{true≢false, both_ways, or_parts}
+use Rattle.std.proofs.lemmas.Bool.{true≢false, both_ways, or_parts, or_right}
 use Rattle.gem_ids.specs.declared.numbers.PortNo.{PortNo}
 use Rattle.load_port.specs.declared.caack.Caack.TheVariants as caack
 use Rattle.load_port.specs.Caack.{is_done_code}
@@ -91,10 +91,6 @@ bound_so c port code =
     let both = both_so c.bound c.present (answer_second (not c.bound || c.present) caack.Impossible _ code refl) in
     record { bound = both.0; absent = both.1 }
 
-held_so : (p b : Bool) → b ≡ true → (p || b) ≡ true
-held_so true b e = refl
-held_so false b e = e
-
 module _ (f : Floor) (valid : IsFloor f) where
   -- the port's carrier is the one that is bound to it
   owner_is : (c : Carrier) (o : Option PortNo) → owner (port_of o f.ports) ≡ Some c.name → owner (port_numbered (port_or_none o) f.ports) ≡ Some c.name
@@ -106,7 +102,7 @@ module _ (f : Floor) (valid : IsFloor f) where
   unbound_so id port (Some c) found code name is =
       let bound = bound_so c port code in
       let belongs = at_found (Belongs f.ports) (has_name id) f.carriers c valid.belong found in
-      let its : owner (port_numbered (port_number_of (Some c)) f.ports) ≡ Some c.name = owner_is c c.port (belongs (held_so c.present c.bound bound.bound)) in
+      let its : owner (port_numbered (port_number_of (Some c)) f.ports) ≡ Some c.name = owner_is c c.port (belongs (or_right c.present c.bound bound.bound)) in
       let same : c.name ≡ name = let both : Some c.name ≡ Some name = sym its ∙ is in cc in
       let own : c.name ≡ id = named_so id c (found_passes (has_name id) f.carriers c found) in
       subst (λ (n : List ℕ). NonePresent n f.carriers) (sym own ∙ same) (absent_named id f.carriers c valid.apart found bound.absent)

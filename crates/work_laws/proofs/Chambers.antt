@@ -14,9 +14,9 @@ use Rattle.floor_model.specs.Jobs.{job_of}
 use Rattle.floor_moves.specs.Valid.{HaveChambers}
 use Rattle.place_laws.specs.Picture.{picture, numbers_from, chambers_in, of_one, of_job}
 use Rattle.floor_laws.proofs.IssueTargets.{among_numbers}
-use Rattle.floor_laws.proofs.JobSight.{each_found}
 use Rattle.tool_events.specs.Configs.{is_usable, are_usable}
 use Rattle.work_laws.specs.Equipped.{HasRecipe, Equipped}
+use Rattle.place_laws.proofs.Names.{each_found}
 
 -- one of these chambers is one of a tool with so many
 abbrev Reaches : ℕ → List ℕ → Type 0

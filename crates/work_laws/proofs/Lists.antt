@@ -1,23 +1,13 @@
 -- What lists, options and truth values tell.
 use Rattle.std.proofs.Common.{◌≡◌, ◌≤◌, ◌<◌, ℕ, zero, suc, ◌+◌, ◌==◌, Bool, true, false, not, ◌||◌, ◌&&◌, if◌then◌else◌, List, [], ◌∷◌, Option, Some, None, option_map, refl, subst, arith}
 use Rattle.std.specs.List.{AllByRecursion, list_any, list_all}
-use Rattle.std.specs.Option.{option_or}
 use Rattle.std.proofs.lemmas.Bool.Decides.{Decides-eqb}
-use Rattle.gem_tables.specs.Table.{Row, firing, is_one_of, is_itself, is_among, first_itself}
+use Rattle.gem_tables.specs.Table.{firing, is_one_of}
 use Rattle.gem_tables.specs.Machine.{Machine, first_ready, least_in}
 use Rattle.robot_moves.specs.Moves.{first_of}
+use Rattle.place_laws.proofs.QuietPorts.{neither}
 
 -- ---- truth values and options
-
--- what isn't false is true
-pub not_false : (b : Bool) → not b ≡ false → b ≡ true
-not_false true e = refl
-not_false false e = absurd (cc)
-
--- where none of two is there, neither is
-pub both_none : {A : Type 0} (x y : Option A) → option_or x y ≡ None → (x ≡ None) × (y ≡ None)
-both_none None y e = (refl, e)
-both_none (Some x) y e = absurd (cc)
 
 -- where what follows from one is not there, it isn't
 pub mapped_none : {A B : Type 0} (f : A → B) (o : Option A) → option_map f o ≡ None → o ≡ None
@@ -45,7 +35,7 @@ not_all test (x ∷ xs) e = of (test x) e (not_all test xs) where
 pub none_of : {A : Type 0} (gives : ℕ → Option A) (first count n : ℕ) → first_of gives first count ≡ None → first ≤ n → n < first + count → gives n ≡ None
 none_of gives first zero n e least most = absurd (omega (arith, least, most))
 none_of gives first (suc count) n e least most =
-    let both = both_none (gives first) (first_of gives (first + 1) count) e in
+    let both = neither (gives first) (first_of gives (first + 1) count) e in
     of (first == n) refl both.0 (λ other. none_of gives (first + 1) count n both.1 (omega (arith, least, other)) (omega (arith, most)))
   where
     of : (b : Bool) → (first == n) ≡ b → gives first ≡ None → ((first ≡ n → ⊥) → gives n ≡ None) → gives n ≡ None
@@ -54,19 +44,11 @@ none_of gives first (suc count) n e least most =
 
 -- ---- rows
 
--- where no row of a table is ready, none that fires by itself starts and finds what it wants
-pub none_itself : {S W E : Type 0} (number : S → ℕ) (finds : W → Bool) (rows : List (Row S W E)) (state : S) → first_itself number finds rows state ≡ None → AllByRecursion (λ (r : Row S W E). (is_itself r.by && (is_among number r.from state && finds r.wants)) ≡ false) rows
-none_itself number finds [] state e = tt
-none_itself number finds (r ∷ rows) state e = of (is_itself r.by && (is_among number r.from state && finds r.wants)) refl e (none_itself number finds rows state) where
-  of : (b : Bool) → (is_itself r.by && (is_among number r.from state && finds r.wants)) ≡ b → (if b then Some r.number else first_itself number finds rows state) ≡ None → (first_itself number finds rows state ≡ None → AllByRecursion (λ r. (is_itself r.by && (is_among number r.from state && finds r.wants)) ≡ false) rows) → ((is_itself r.by && (is_among number r.from state && finds r.wants)) ≡ false) × AllByRecursion (λ r. (is_itself r.by && (is_among number r.from state && finds r.wants)) ≡ false) rows
-  of true q e rest = absurd (cc)
-  of false q e rest = (q, rest e)
-
 -- where none is the first, none is ready at any of these objects
 pub first_none : (table : ℕ) (ready : ℕ → Option ℕ) (xs : List ℕ) → first_ready table ready xs ≡ None → (x : ℕ) → is_one_of xs x ≡ true → ready x ≡ None
 first_none table ready [] e x is = absurd (cc)
 first_none table ready (y ∷ ys) e x is =
-    let both = both_none (option_map (firing table y) (ready y)) (first_ready table ready ys) e in
+    let both = neither (option_map (firing table y) (ready y)) (first_ready table ready ys) e in
     of (y == x) refl is (mapped_none (firing table y) (ready y) both.0) (first_none table ready ys both.1 x)
   where
     of : (b : Bool) → (y == x) ≡ b → (b || is_one_of ys x) ≡ true → ready y ≡ None → (is_one_of ys x ≡ true → ready x ≡ None) → ready x ≡ None
@@ -77,5 +59,5 @@ first_none table ready (y ∷ ys) e x is =
 pub none_least : {World : Type 0} (ms : List (Machine World)) (w : World) → least_in ms w ≡ None → AllByRecursion (λ (m : Machine World). first_ready m.table (λ object. m.ready object w) (m.objects w) ≡ None) ms
 none_least [] w e = tt
 none_least (m ∷ ms) w e =
-    let both = both_none (first_ready m.table (λ object. m.ready object w) (m.objects w)) (least_in ms w) e in
+    let both = neither (first_ready m.table (λ object. m.ready object w) (m.objects w)) (least_in ms w) e in
     (both.0, none_least ms w both.1)

@@ -34,27 +34,22 @@ use Rattle.place_laws.specs.Sound.{Base}
 use Rattle.floor_laws.proofs.IssueHeld.{found_so}
 use Rattle.floor_laws.proofs.JobSight.{in_slot_from}
 use Rattle.floor_laws.proofs.JobNamed.{named_from}
-use Rattle.work_laws.proofs.Lists.{mapped_none, where_none, none_of, none_itself}
+use Rattle.work_laws.proofs.Lists.{mapped_none, where_none, none_of}
 use Rattle.work_laws.proofs.Standing.{within, shown, none_held, place_named, target_there, useful_there}
+use Rattle.place_laws.proofs.QuietPorts.{no_row}
 
 -- ---- table 13
 
 -- the first state of table 13 is NEEDS PROCESSING
 is_needing_state : (p : Processing) → (processing_number p == 0) ≡ true → p ≡ processing.NeedsProcessing
 is_needing_state processing.NeedsProcessing e = refl
-is_needing_state processing.InProcess e = absurd (cc)
-is_needing_state processing.Processed e = absurd (cc)
-is_needing_state processing.Aborted e = absurd (cc)
-is_needing_state processing.Stopped e = absurd (cc)
-is_needing_state processing.Rejected e = absurd (cc)
-is_needing_state processing.Lost e = absurd (cc)
-is_needing_state processing.Skipped e = absurd (cc)
+is_needing_state _ e = absurd (cc)
 
 -- where no row of table 13 is ready, one that NEEDS PROCESSING isn't skipped
 none_skipped : (f : ToolFloor) (s : Substrate) (p : Processing) → p ≡ processing.NeedsProcessing → first_itself processing_number (λ w. substrate_wants w s f) processing_table p ≡ None → is_skipped s f ≡ false
 none_skipped f s p is e =
     let here : first_itself processing_number (λ w. substrate_wants w s f) processing_table processing.NeedsProcessing ≡ None = subst (λ (x : Processing). first_itself processing_number (λ w. substrate_wants w s f) processing_table x ≡ None) is e in
-    (none_itself processing_number (λ w. substrate_wants w s f) processing_table processing.NeedsProcessing here).1.1.1.1.0
+    (no_row processing_number (λ w. substrate_wants w s f) processing_table processing.NeedsProcessing here).1.1.1.1.0
 
 -- what its job says by numbers
 said : (f : ToolFloor) (n : ℕ) (s : Substrate) → substrate_numbered n f.substrates ≡ Some s → (test : JobState → Bool) → of_one false (of_job false (λ j. test j.states.state) f.jobs) (substrate_numbered n f.substrates) ≡ is_job_so test (job_of s f.jobs)

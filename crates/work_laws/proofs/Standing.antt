@@ -16,15 +16,16 @@ use Rattle.substrate.specs.declared.registered.Registered.{Registered}
 use Rattle.floor_model.specs.Floor.{ToolFloor}
 use Rattle.floor_model.specs.Views.{views}
 use Rattle.floor_moves.specs.Floor as law
-use Rattle.floor_moves.specs.Floor.{Loc, slot, arm, own}
+use Rattle.floor_moves.specs.Floor.{Loc, slot, own}
 use Rattle.floor_moves.specs.Rest.{HasTarget, MayLeave}
 use Rattle.floor_moves.specs.Valid.{Empty, Valid}
 use Rattle.place_laws.specs.Picture.{picture, loc_of, numbers_from}
 use Rattle.place_laws.specs.Sound.{Base}
 use Rattle.floor_laws.proofs.IssueHeld.{found_so, none_any}
-use Rattle.floor_laws.proofs.IssueViews.{IsSeen, holder_seen, none_seen, same_loc}
+use Rattle.floor_laws.proofs.IssueViews.{IsSeen, holder_seen, none_seen}
 use Rattle.work_laws.proofs.Lists.{none_of}
 use Rattle.work_laws.proofs.Telling.{Tells, views_tell}
+use Rattle.place_laws.proofs.Names.{same_loc}
 
 -- ---- numbers of chambers and modules
 

@@ -1,7 +1,7 @@
 -- Where no row of the floor is ready by itself, no module is Down and work is left, a command is open.
 use Rattle.std.proofs.Common.{◌≡◌, length, suc, zero, ◌≤◌, ℕ, ◌==◌, Bool, true, false, not, ◌||◌, ◌&&◌, if◌then◌else◌, List, [], ◌∷◌, map, Option, Some, None, refl, sym, ◌∙◌, ap, subst, arith}
 use Rattle.std.specs.List.{AllByRecursion, list_any}
-use Rattle.std.proofs.lemmas.Bool.{and_parts, and_from, or_parts, or_right, not-true}
+use Rattle.std.proofs.lemmas.Bool.{and_parts, and_from, or_parts, or_right, not-true, not-false}
 use Rattle.std.proofs.lemmas.Bool.Decides.{Decides-eqb}
 use Rattle.gem_tables.specs.Table.{is_one_of}
 use Rattle.gem_tables.specs.Machine.{first_ready}
@@ -23,7 +23,7 @@ use Rattle.floor_model.specs.Views.{views}
 use Rattle.floor_model.proofs.Moves.{firing_of, first_move_is}
 use Rattle.substrate.specs.Tables.{processing_number, processing_table}
 use Rattle.floor_moves.specs.Floor as law
-use Rattle.floor_moves.specs.Floor.{Floor, Loc, slot, aligner, arm, chamber, Command, busy, modules, own}
+use Rattle.floor_moves.specs.Floor.{Floor, Loc, slot, aligner, arm, chamber, Command, busy, modules}
 use Rattle.floor_moves.specs.Work as law_work
 use Rattle.floor_moves.specs.Work.{IsOpen}
 use Rattle.floor_moves.specs.Rest.{AtRest}
@@ -37,7 +37,7 @@ use Rattle.floor_laws.proofs.JobWork.{finished_same}
 use Rattle.floor_laws.proofs.RegFound.{risen}
 use Rattle.work_laws.specs.Equipped.{Equipped}
 use Rattle.work_laws.specs.Work.{is_pausing, is_member_outside, has_work, is_work_left, is_down, is_any_down, has_open, is_any_open}
-use Rattle.work_laws.proofs.Lists.{not_false, mapped_none, not_all, first_none, none_least}
+use Rattle.work_laws.proofs.Lists.{mapped_none, not_all, first_none, none_least}
 use Rattle.work_laws.proofs.Resting.{none_planned, at_rest}
 use Rattle.work_laws.proofs.Standing.{there}
 use Rattle.work_laws.proofs.Chambers.{have_chambers}
@@ -131,7 +131,7 @@ module _ (f : ToolFloor) (sound : Sound f) where
     parts = or_parts (not (is_member j.number s)) (is_finished s.states.processing && (is_in_slot s f.places || is_removed s f.places)) (not-true (is_done_with j.number f.places s) undone)
 
     its : job_of s f.jobs ≡ Some j
-    its = its_job s j known (not_false (is_member j.number s) parts.0)
+    its = its_job s j known (not-false (is_member j.number s) parts.0)
 
     at_work : law_work.is_at_work s.number (picture f) ≡ true
     at_work =

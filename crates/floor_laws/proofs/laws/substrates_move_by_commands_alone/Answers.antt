@@ -8,4 +8,4 @@ pub returns-clause-closed : goal.returns-clause-closed
 returns-clause-closed c = closing_places
 
 pub returns-clause-lost : goal.returns-clause-lost
-returns-clause-lost c = λ sub f sound. lost_listed sub f sound.base
+returns-clause-lost c = λ sub f sound. lost_listed sub f sound

@@ -19,19 +19,19 @@ use Rattle.batching.proofs.Making.{Makes-nothing, Makes-unmade, Makes-then, Make
 
 -- ---- inputs
 
-pub Makes-enter : (a b c : BatchView) (all : List Event) (e : Event) (es : List Event) (result : Result (Unit {0}) Stop) → all ≡ e ∷ es → Makes {A = Unit {0}} a.core b (entered e (standing a)) (Ok tt) → Makes b.core c (all_entered es (standing b)) result → Makes a.core c (all_entered all (standing a)) result
+pub Makes-enter : (a b c : BatchView) (all : List Event) (e : Event) (es : List Event) (result : Result (Unit {0}) Stop) → all ≡ e ∷ es → Makes a.core b (entered e (standing a)) (Ok tt) → Makes b.core c (all_entered es (standing b)) result → Makes a.core c (all_entered all (standing a)) result
 Makes-enter a b c all e es result is first rest =
     subst (λ (xs : List Event). Makes a.core c (all_entered xs (standing a)) result) (sym is)
-    (Makes-then a.core b c (entered e (standing a)) (all_entered es) tt result first rest)
+    (Makes-then a.core b c (entered e (standing a)) (all_entered es) result first rest)
 
-pub Makes-enter-stops : (a b : BatchView) (all : List Event) (e : Event) (es : List Event) (why : Stop) → all ≡ e ∷ es → Makes {A = Unit {0}} a.core b (entered e (standing a)) (Err why) → Makes {A = Unit {0}} a.core b (all_entered all (standing a)) (Err why)
+pub Makes-enter-stops : (a b : BatchView) (all : List Event) (e : Event) (es : List Event) (why : Stop) → all ≡ e ∷ es → Makes a.core b (entered e (standing a)) (Err why) → Makes a.core b (all_entered all (standing a)) (Err why)
 Makes-enter-stops a b all e es why is first =
-    subst (λ (xs : List Event). Makes {A = Unit {0}} a.core b (all_entered xs (standing a)) (Err why)) (sym is)
+    subst (λ (xs : List Event). Makes a.core b (all_entered xs (standing a)) (Err why)) (sym is)
     (Makes-stops a.core b (entered e (standing a)) (all_entered es) why first)
 
-pub Makes-enter-none : (a : BatchView) (all : List Event) → all ≡ [] → Makes {A = Unit {0}} a.core a (all_entered all (standing a)) (Ok tt)
+pub Makes-enter-none : (a : BatchView) (all : List Event) → all ≡ [] → Makes a.core a (all_entered all (standing a)) (Ok tt)
 Makes-enter-none a all none =
-    subst (λ (xs : List Event). Makes {A = Unit {0}} a.core a (all_entered xs (standing a)) (Ok tt)) (sym none) (Makes-nothing a tt)
+    subst (λ (xs : List Event). Makes a.core a (all_entered xs (standing a)) (Ok tt)) (sym none) (Makes-nothing a)
 
 -- ---- answers
 
@@ -43,14 +43,14 @@ answers-next : (c : Config) (s : Standing) (left next : ℕ) (p : Primary) (ps :
 answers-next c s left next p ps left_is asked =
     ap (λ (n : ℕ). answers_by n c s) left_is ∙ ap (λ (qs : List Primary). answered_oldest c qs s (answers_by next c)) asked
 
-pub Makes-answer : (config : Config) (a b c : BatchView) (left next : ℕ) (p : Primary) (ps : List Primary) (result : Result (Unit {0}) Stop) → left ≡ suc next → a.asked ≡ p ∷ ps → Makes {A = Unit {0}} a.core b (answered config p ps (standing a)) (Ok tt) → Makes b.core c (answers_by next config (standing b)) result → Makes a.core c (answers_by left config (standing a)) result
+pub Makes-answer : (config : Config) (a b c : BatchView) (left next : ℕ) (p : Primary) (ps : List Primary) (result : Result (Unit {0}) Stop) → left ≡ suc next → a.asked ≡ p ∷ ps → Makes a.core b (answered config p ps (standing a)) (Ok tt) → Makes b.core c (answers_by next config (standing b)) result → Makes a.core c (answers_by left config (standing a)) result
 Makes-answer config a b c left next p ps result left_is asked first rest =
     subst (λ (made : Made). Makes a.core c made result) (sym (answers-next config (standing a) left next p ps left_is asked))
-    (Makes-then a.core b c (answered config p ps (standing a)) (answers_by next config) tt result first rest)
+    (Makes-then a.core b c (answered config p ps (standing a)) (answers_by next config) result first rest)
 
-pub Makes-answer-stops : (config : Config) (a b : BatchView) (left next : ℕ) (p : Primary) (ps : List Primary) (why : Stop) → left ≡ suc next → a.asked ≡ p ∷ ps → Makes {A = Unit {0}} a.core b (answered config p ps (standing a)) (Err why) → Makes {A = Unit {0}} a.core b (answers_by left config (standing a)) (Err why)
+pub Makes-answer-stops : (config : Config) (a b : BatchView) (left next : ℕ) (p : Primary) (ps : List Primary) (why : Stop) → left ≡ suc next → a.asked ≡ p ∷ ps → Makes a.core b (answered config p ps (standing a)) (Err why) → Makes a.core b (answers_by left config (standing a)) (Err why)
 Makes-answer-stops config a b left next p ps why left_is asked first =
-    subst (λ (made : Made). Makes {A = Unit {0}} a.core b made (Err why)) (sym (answers-next config (standing a) left next p ps left_is asked))
+    subst (λ (made : Made). Makes a.core b made (Err why)) (sym (answers-next config (standing a) left next p ps left_is asked))
     (Makes-stops a.core b (answered config p ps (standing a)) (answers_by next config) why first)
 
 answers-none : (c : Config) (s : Standing) (left : ℕ) → s.asked ≡ [] → answers_by left c s ≡ nothing_made s
@@ -58,9 +58,9 @@ answers-none c s zero none = refl
 answers-none c s (suc left) none = ap (λ (qs : List Primary). answered_oldest c qs s (answers_by left c)) none
 
 -- no message is left
-pub Makes-answer-none : (config : Config) (a b : BatchView) (left : ℕ) → b.core ≡ a.core → b.drawn ≡ a.drawn → a.asked ≡ b.asked → a.asked ≡ [] → Makes {A = Unit {0}} a.core b (answers_by left config (standing a)) (Ok tt)
+pub Makes-answer-none : (config : Config) (a b : BatchView) (left : ℕ) → b.core ≡ a.core → b.drawn ≡ a.drawn → a.asked ≡ b.asked → a.asked ≡ [] → Makes a.core b (answers_by left config (standing a)) (Ok tt)
 Makes-answer-none config a b left core drawn asked none =
-    subst (λ (made : Made). Makes {A = Unit {0}} a.core b made (Ok tt)) (sym (answers-none config (standing a) left none)) (record {
+    subst (λ (made : Made). Makes a.core b made (Ok tt)) (sym (answers-none config (standing a) left none)) (record {
       config = ap (λ (k : CoreView). k.config) core;
       on = (
         ap (λ (k : CoreView). k.history) core ∙ sym (append-nil a.core.history),
@@ -71,9 +71,9 @@ Makes-answer-none config a b left core drawn asked none =
     })
 
 -- no more are answered
-pub Makes-answer-end : (config : Config) (a : BatchView) (left : ℕ) → left ≡ 0 → Makes {A = Unit {0}} a.core a (answers_by left config (standing a)) (Ok tt)
+pub Makes-answer-end : (config : Config) (a : BatchView) (left : ℕ) → left ≡ 0 → Makes a.core a (answers_by left config (standing a)) (Ok tt)
 Makes-answer-end config a left end =
-    subst (λ (n : ℕ). Makes {A = Unit {0}} a.core a (answers_by n config (standing a)) (Ok tt)) (sym end) (Makes-nothing a tt)
+    subst (λ (n : ℕ). Makes a.core a (answers_by n config (standing a)) (Ok tt)) (sym end) (Makes-nothing a)
 
 -- ---- commands that are done
 
@@ -86,43 +86,43 @@ abbrev next_done : Config → ℕ → Standing → Made
 next_done c n t = done_one (drawn t.drawn_last) (chosen (drawn t.drawn_last) (busy t.state)) t (dones_by n c)
 
 -- what was answered, and then what was done
-answered_then : (config : Config) (a b c : BatchView) (left next : ℕ) (result : Result (Unit {0}) Stop) → left ≡ suc next → Makes {A = Unit {0}} a.core b (answers config (standing a)) (Ok tt) → Makes b.core c (next_done config next (standing b)) result → Makes a.core c (dones_by left config (standing a)) result
+answered_then : (config : Config) (a b c : BatchView) (left next : ℕ) (result : Result (Unit {0}) Stop) → left ≡ suc next → Makes a.core b (answers config (standing a)) (Ok tt) → Makes b.core c (next_done config next (standing b)) result → Makes a.core c (dones_by left config (standing a)) result
 answered_then config a b c left next result left_is first second =
     subst (λ (n : ℕ). Makes a.core c (dones_by n config (standing a)) result) (sym left_is)
-    (Makes-then a.core b c (answers config (standing a)) (next_done config next) tt result first second)
+    (Makes-then a.core b c (answers config (standing a)) (next_done config next) result first second)
 
 -- the one that was chosen
-chosen_is : {A : Type 0} (config : Config) (b c : BatchView) (next : ℕ) (o : Option Fetched) (result : Result A Stop) → o ≡ chosen (drawn b.drawn) (busy b.core.state) → Makes b.core c (done_one (drawn b.drawn) o (standing b) (dones_by next config)) result → Makes b.core c (next_done config next (standing b)) result
+chosen_is : (config : Config) (b c : BatchView) (next : ℕ) (o : Option Fetched) (result : Result (Unit {0}) Stop) → o ≡ chosen (drawn b.drawn) (busy b.core.state) → Makes b.core c (done_one (drawn b.drawn) o (standing b) (dones_by next config)) result → Makes b.core c (next_done config next (standing b)) result
 chosen_is config b c next o result is h =
     subst (λ (m : Option Fetched). Makes b.core c (done_one (drawn b.drawn) m (standing b) (dones_by next config)) result) is h
 
-pub Makes-work : (config : Config) (a b d c : BatchView) (left next : ℕ) (m : Fetched) (result : Result (Unit {0}) Stop) → left ≡ suc next → Makes {A = Unit {0}} a.core b (answers config (standing a)) (Ok tt) → Some m ≡ chosen (drawn b.drawn) (busy b.core.state) → Makes {A = Unit {0}} b.core d (did m (standing b)) (Ok tt) → Makes d.core c (dones_by next config (standing d)) result → Makes a.core c (dones_by left config (standing a)) result
+pub Makes-work : (config : Config) (a b d c : BatchView) (left next : ℕ) (m : Fetched) (result : Result (Unit {0}) Stop) → left ≡ suc next → Makes a.core b (answers config (standing a)) (Ok tt) → Some m ≡ chosen (drawn b.drawn) (busy b.core.state) → Makes b.core d (did m (standing b)) (Ok tt) → Makes d.core c (dones_by next config (standing d)) result → Makes a.core c (dones_by left config (standing a)) result
 Makes-work config a b d c left next m result left_is first is second rest =
     answered_then config a b c left next result left_is first
-    (chosen_is config b c next (Some m) result is (Makes-then b.core d c (did m (standing b)) (dones_by next config) tt result second rest))
+    (chosen_is config b c next (Some m) result is (Makes-then b.core d c (did m (standing b)) (dones_by next config) result second rest))
 
-pub Makes-work-stops : (config : Config) (a b d : BatchView) (left next : ℕ) (m : Fetched) (why : Stop) → left ≡ suc next → Makes {A = Unit {0}} a.core b (answers config (standing a)) (Ok tt) → Some m ≡ chosen (drawn b.drawn) (busy b.core.state) → Makes {A = Unit {0}} b.core d (did m (standing b)) (Err why) → Makes {A = Unit {0}} a.core d (dones_by left config (standing a)) (Err why)
+pub Makes-work-stops : (config : Config) (a b d : BatchView) (left next : ℕ) (m : Fetched) (why : Stop) → left ≡ suc next → Makes a.core b (answers config (standing a)) (Ok tt) → Some m ≡ chosen (drawn b.drawn) (busy b.core.state) → Makes b.core d (did m (standing b)) (Err why) → Makes a.core d (dones_by left config (standing a)) (Err why)
 Makes-work-stops config a b d left next m why left_is first is second =
     answered_then config a b d left next (Err why) left_is first
     (chosen_is config b d next (Some m) (Err why) is (Makes-stops b.core d (did m (standing b)) (dones_by next config) why second))
 
 -- no module has a command
-pub Makes-work-none : (config : Config) (a b : BatchView) (left next : ℕ) → left ≡ suc next → Makes {A = Unit {0}} a.core b (answers config (standing a)) (Ok tt) → None ≡ chosen (drawn b.drawn) (busy b.core.state) → Makes {A = Unit {0}} a.core b (dones_by left config (standing a)) (Ok tt)
+pub Makes-work-none : (config : Config) (a b : BatchView) (left next : ℕ) → left ≡ suc next → Makes a.core b (answers config (standing a)) (Ok tt) → None ≡ chosen (drawn b.drawn) (busy b.core.state) → Makes a.core b (dones_by left config (standing a)) (Ok tt)
 Makes-work-none config a b left next left_is first is =
-    answered_then config a b b left next (Ok tt) left_is first (chosen_is config b b next None (Ok tt) is (Makes-nothing b tt))
+    answered_then config a b b left next (Ok tt) left_is first (chosen_is config b b next None (Ok tt) is (Makes-nothing b))
 
 -- there is no memory to choose
-pub Makes-work-memory : (config : Config) (a b : BatchView) (left next : ℕ) → left ≡ suc next → Makes {A = Unit {0}} a.core b (answers config (standing a)) (Ok tt) → Makes {A = Unit {0}} a.core b (dones_by left config (standing a)) (Err stop.NoMemory)
+pub Makes-work-memory : (config : Config) (a b : BatchView) (left next : ℕ) → left ≡ suc next → Makes a.core b (answers config (standing a)) (Ok tt) → Makes a.core b (dones_by left config (standing a)) (Err stop.NoMemory)
 Makes-work-memory config a b left next left_is first =
     answered_then config a b b left next (Err stop.NoMemory) left_is first (Makes-unmade b.core b (next_done config next (standing b)) refl)
 
 -- the answers stop
-pub Makes-work-unanswered : (config : Config) (a b : BatchView) (left next : ℕ) (why : Stop) → left ≡ suc next → Makes {A = Unit {0}} a.core b (answers config (standing a)) (Err why) → Makes {A = Unit {0}} a.core b (dones_by left config (standing a)) (Err why)
+pub Makes-work-unanswered : (config : Config) (a b : BatchView) (left next : ℕ) (why : Stop) → left ≡ suc next → Makes a.core b (answers config (standing a)) (Err why) → Makes a.core b (dones_by left config (standing a)) (Err why)
 Makes-work-unanswered config a b left next why left_is first =
-    subst (λ (n : ℕ). Makes {A = Unit {0}} a.core b (dones_by n config (standing a)) (Err why)) (sym left_is)
+    subst (λ (n : ℕ). Makes a.core b (dones_by n config (standing a)) (Err why)) (sym left_is)
     (Makes-stops a.core b (answers config (standing a)) (next_done config next) why first)
 
 -- no more are done
-pub Makes-work-end : (config : Config) (a : BatchView) (left : ℕ) → left ≡ 0 → Makes {A = Unit {0}} a.core a (dones_by left config (standing a)) (Ok tt)
+pub Makes-work-end : (config : Config) (a : BatchView) (left : ℕ) → left ≡ 0 → Makes a.core a (dones_by left config (standing a)) (Ok tt)
 Makes-work-end config a left end =
-    subst (λ (n : ℕ). Makes {A = Unit {0}} a.core a (dones_by n config (standing a)) (Ok tt)) (sym end) (Makes-nothing a tt)
+    subst (λ (n : ℕ). Makes a.core a (dones_by n config (standing a)) (Ok tt)) (sym end) (Makes-nothing a)

@@ -6,7 +6,7 @@ use Rattle.robot_moves.specs.declared.module.Module.{Module}
 use Rattle.robot_moves.specs.Modules.{module_at, fetched_number}
 use Rattle.batch_model.specs.declared.fetched.Fetched.{Fetched}
 use Rattle.batch_model.specs.Modules.{fetched_as, fetched_from}
-use Rattle.batching.proofs.Fetching.{busy-joined}
+use Rattle.batching.proofs.Busy.{busy-joined}
 
 -- modules are numbered from 1
 command-at : (ms : List Module) (i : ℕ) (o : Option CmdNo) → o ≡ fetched_number (module_at (i + 1) ms) → o ≡ fetched_number (slice_get ms i)

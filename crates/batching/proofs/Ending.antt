@@ -49,49 +49,13 @@ front_of c seed carriers b (Ok done) h = IsFront-same b.core.history (batch_entr
 front_of c seed carriers b (Err stop.Full) h = record { behind = h.on.next ∷ h.on.behind; joined = h.on.joined }
 front_of c seed carriers b (Err stop.NoMemory) h = h.on
 
--- a batch ends by no other cause
-no_words : (ran : Result (Unit {0}) Stop) (place : ℕ) (history : List Entry) → EndsAs ran (cause.Words place) history → ⊥
-no_words (Ok done) place history ends = ends
-no_words (Err stop.Full) place history ends = ends
-no_words (Err stop.NoMemory) place history ends = ends
-
-no_config : (ran : Result (Unit {0}) Stop) (rule : ℕ) (key : List ℕ) (history : List Entry) → EndsAs ran (cause.Config rule key) history → ⊥
-no_config (Ok done) rule key history ends = ends
-no_config (Err stop.Full) rule key history ends = ends
-no_config (Err stop.NoMemory) rule key history ends = ends
-
-no_read : (ran : Result (Unit {0}) Stop) (history : List Entry) → EndsAs ran cause.ReadFault history → ⊥
-no_read (Ok done) history ends = ends
-no_read (Err stop.Full) history ends = ends
-no_read (Err stop.NoMemory) history ends = ends
-
-no_line : (ran : Result (Unit {0}) Stop) (number place : ℕ) (history : List Entry) → EndsAs ran (cause.Line number place) history → ⊥
-no_line (Ok done) number place history ends = ends
-no_line (Err stop.Full) number place history ends = ends
-no_line (Err stop.NoMemory) number place history ends = ends
-
-no_door : (ran : Result (Unit {0}) Stop) (history : List Entry) → EndsAs ran cause.Door history → ⊥
-no_door (Ok done) history ends = ends
-no_door (Err stop.Full) history ends = ends
-no_door (Err stop.NoMemory) history ends = ends
-
 -- the history of a batch, by why it ended
 pub MadeBy-end : (c : Config) (seed carriers : ℕ) (b : BatchView) (ran : Result (Unit {0}) Stop) (why : Cause) → Makes (opened c) b (batch_made c seed carriers) ran → EndsAs ran why b.core.history → MadeBy c seed carriers why b.core.history
 MadeBy-end c seed carriers b (Ok done) cause.Done h ends = h.on.0
 MadeBy-end c seed carriers b (Ok done) cause.WriteFault h ends = h.on.0
 MadeBy-end c seed carriers b ran cause.NoMemory h ends = front_of c seed carriers b ran h
 MadeBy-end c seed carriers b (Err stop.Full) (cause.Full entries bytes input) h ends = (h.on, ends.0, ends.1, ends.2)
-MadeBy-end c seed carriers b (Ok done) (cause.Full entries bytes input) h ends = absurd ends
-MadeBy-end c seed carriers b (Err stop.NoMemory) (cause.Full entries bytes input) h ends = absurd ends
-MadeBy-end c seed carriers b (Err stop.Full) cause.Done h ends = absurd ends
-MadeBy-end c seed carriers b (Err stop.NoMemory) cause.Done h ends = absurd ends
-MadeBy-end c seed carriers b (Err stop.Full) cause.WriteFault h ends = absurd ends
-MadeBy-end c seed carriers b (Err stop.NoMemory) cause.WriteFault h ends = absurd ends
-MadeBy-end c seed carriers b ran (cause.Words place) h ends = absurd (no_words ran place b.core.history ends)
-MadeBy-end c seed carriers b ran (cause.Config rule key) h ends = absurd (no_config ran rule key b.core.history ends)
-MadeBy-end c seed carriers b ran cause.ReadFault h ends = absurd (no_read ran b.core.history ends)
-MadeBy-end c seed carriers b ran (cause.Line number place) h ends = absurd (no_line ran number place b.core.history ends)
-MadeBy-end c seed carriers b ran cause.Door h ends = absurd (no_door ran b.core.history ends)
+MadeBy-end c seed carriers b ran _ h ends = absurd ends
 
 -- of its summary a front is out
 pub Summed-front : (c : Config) (carriers : ℕ) (why : Cause) (held held' : Option (List ℕ)) (history : List Entry) → Summed c carriers why held held' history → Summed c carriers cause.NoMemory held held' history
@@ -99,11 +63,7 @@ Summed-front c carriers cause.Done held held' history h = (summary c carriers hi
 Summed-front c carriers cause.WriteFault held held' history h = h
 Summed-front c carriers cause.NoMemory held held' history h = h
 Summed-front c carriers (cause.Full entries bytes input) held held' history h = ([], (summary c carriers history, refl), h)
-Summed-front c carriers (cause.Words place) held held' history h = absurd h
-Summed-front c carriers (cause.Config rule key) held held' history h = absurd h
-Summed-front c carriers cause.ReadFault held held' history h = absurd h
-Summed-front c carriers (cause.Line number place) held held' history h = absurd h
-Summed-front c carriers cause.Door held held' history h = absurd h
+Summed-front c carriers _ held held' history h = absurd h
 
 -- nothing of it is out
 pub Summed-nothing : (c : Config) (carriers : ℕ) (held : Option (List ℕ)) (history : List Entry) → Summed c carriers cause.NoMemory held held history

@@ -1,6 +1,6 @@
 pub mod Making
-pub mod Taking
-pub mod Fetching
+pub mod Keeping
+pub mod Busy
 pub mod Answering
 pub mod Choosing
 pub mod Carrying

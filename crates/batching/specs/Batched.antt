@@ -18,19 +18,14 @@ use Rattle.batch_model.specs.Summary.{summary}
 use Rattle.batch_model.specs.Told.{bytes_told}
 
 -- The history is that of the batch: all of its entries, where all was done or the summary could not be written; up to an entry that
--- doesn't fit the limits; or, after want of memory, a front. No batch ends by the words, by its configuration, by a read, by a line or
--- at a door once its configuration was read.
+-- doesn't fit the limits; or, after want of memory, a front. By any other cause no batch ends once its configuration was read.
 abbrev pub MadeBy : Config → ℕ → ℕ → Cause → List Entry → Type 0
 MadeBy c seed carriers cause.Done history = history ≡ batch_entries c seed carriers
 MadeBy c seed carriers cause.WriteFault history = history ≡ batch_entries c seed carriers
 MadeBy c seed carriers (cause.Full entries bytes input) history =
     IsFullAt c history (batch_entries c seed carriers) × (entries ≡ length history) × (bytes ≡ bytes_of history) × (input ≡ 0)
 MadeBy c seed carriers cause.NoMemory history = IsFront history (batch_entries c seed carriers)
-MadeBy c seed carriers (cause.Words place) history = ⊥
-MadeBy c seed carriers (cause.Config rule key) history = ⊥
-MadeBy c seed carriers cause.ReadFault history = ⊥
-MadeBy c seed carriers (cause.Line number place) history = ⊥
-MadeBy c seed carriers cause.Door history = ⊥
+MadeBy c seed carriers _ history = ⊥
 
 -- Behind what was held the summary of the history is out: all of it; or, after want of memory or a write fault, a front; and nothing
 -- where the batch stopped at its limits.
@@ -39,11 +34,7 @@ Summed c carriers cause.Done held held' history = Written held held' (summary c 
 Summed c carriers cause.WriteFault held held' history = WrittenFront held held' (summary c carriers history)
 Summed c carriers cause.NoMemory held held' history = WrittenFront held held' (summary c carriers history)
 Summed c carriers (cause.Full entries bytes input) held held' history = Written held held' []
-Summed c carriers (cause.Words place) held held' history = ⊥
-Summed c carriers (cause.Config rule key) held held' history = ⊥
-Summed c carriers cause.ReadFault held held' history = ⊥
-Summed c carriers (cause.Line number place) held held' history = ⊥
-Summed c carriers cause.Door held held' history = ⊥
+Summed c carriers _ held held' history = ⊥
 
 -- a note for each session, with the bytes of the messages that the history has of it; after want of memory there may be none
 abbrev pub Noted : Config → Cause → List Entry → List SessionNote → Type 0

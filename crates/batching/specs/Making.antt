@@ -24,12 +24,12 @@ standing b = record { state = b.core.state; asked = b.asked; drawn_last = b.draw
 
 -- The history went on by all that is made, and the batch stands behind it; or up to an entry that doesn't fit the limits; or, after
 -- want of memory, by a front of it.
-abbrev pub MadeOn : {A : Type 0} → CoreView → BatchView → Made → Result A Stop → Type 0
+abbrev pub MadeOn : CoreView → BatchView → Made → Result (Unit {0}) Stop → Type 0
 MadeOn core b made (Ok done) = (b.core.history ≡ core.history ++ made.entries) × (standing b ≡ made.standing)
 MadeOn core b made (Err stop.Full) = IsFullAt core.config b.core.history (core.history ++ made.entries)
 MadeOn core b made (Err stop.NoMemory) = IsFront b.core.history (core.history ++ made.entries)
 
 -- From a core, a part of a batch is done, or the batch stops.
-pub record Makes {A : Type 0} (core : CoreView) (b : BatchView) (made : Made) (result : Result A Stop) : Type 0 where
+pub record Makes (core : CoreView) (b : BatchView) (made : Made) (result : Result (Unit {0}) Stop) : Type 0 where
   pub config : b.core.config ≡ core.config
   pub on : MadeOn core b made result

@@ -9,8 +9,8 @@
 mod batch;
 mod carriers;
 mod counts;
-mod engine;
 mod host;
+mod keeper;
 mod modules;
 mod run;
 mod summary;

@@ -1,15 +1,17 @@
 //! The host answers what the tool asks, and the modules do their commands.
 ghost use Rattle.std.specs.Prelude.{◌≡◌, ◌∷◌, [], true, IfOk, OnOk};
+ghost use Rattle.std.specs.List.{AllByRecursion};
 ghost use Rattle.tool_events.specs.declared.event.Event.TheVariants as event;
 ghost use Rattle.tool_events.specs.declared.event.Signal.TheVariants as signal;
 ghost use Rattle.sim_modules.specs.Drawing.{drawn};
 ghost use Rattle.batch_model.specs.Host.{answer_to, select_request, enable_request};
 ghost use Rattle.batch_model.specs.Batch.{entered, told, answers, turn, begun, dones_by, most_dones, then_made};
 ghost use Rattle.batching.specs.Making.{batch_seen, standing, Makes};
+ghost use Rattle.batching.specs.Parts.{IsInput};
 
 use crate::batch::{Batch, Stop};
-use crate::engine::{enter, enter_all};
 use crate::host::{answer_to, enable_request, select_request};
+use crate::keeper::{enter, enter_all};
 use crate::modules::next_done;
 use batch_model::{Fetched, Primary};
 use history_laws::Recorder;
@@ -96,6 +98,7 @@ pub fn turn<C: Recorder>(
     config: &Config,
     events: Vec<Event>,
 ) -> Result<(), Stop>
+    requires inputs { AllByRecursion IsInput events.items }
     requires whole { (C.view batch.old.core).is_whole ≡ true }
     ensures made { Makes (C.view batch.old.core) (batch_seen C.view batch.new) (turn config.now events.items (standing (batch_seen C.view batch.old))) result }
     ensures whole { OnOk result ((C.view batch.new.core).is_whole ≡ true) }
@@ -113,6 +116,7 @@ fn turn_one<C: Recorder>(
     config: &Config,
     event: Event,
 ) -> Result<(), Stop>
+    requires input { IsInput event }
     requires whole { (C.view batch.old.core).is_whole ≡ true }
     ensures made { Makes (C.view batch.old.core) (batch_seen C.view batch.new) (turn config.now (event ∷ []) (standing (batch_seen C.view batch.old))) result }
     ensures whole { OnOk result ((C.view batch.new.core).is_whole ≡ true) }

@@ -3,7 +3,7 @@ use Rattle.robot_moves.specs.declared.module.Module.{Module}
 use Rattle.batch_model.specs.declared.fetched.Fetched.{Fetched}
 use Rattle.batch_model.specs.Batch.{busy}
 use Rattle.batching.proofs.Choosing.{busy-some, busy-none}
-use Rattle.batching.proofs.Fetching.{busy-all}
+use Rattle.batching.proofs.Busy.{busy-all}
 use Rattle.batching.proofs.modules.busy.Goals.{in-Some+in_ok-push, in_default}
 use Rattle.batching.proofs.modules.busy.Goals as goal
 

@@ -10,7 +10,7 @@ pub returns-in-Ok-clause-made : goal.returns-in-Ok-clause-made
 returns-in-Ok-clause-made g c =
     let rest : Standing → Made = λ t. then_made (turn c.args.config.now (told select_request ∷ []) t) (turn c.args.config.now (told (enable_request c.args.config.now.device) ∷ [])) in
     Makes-then (g.C.Recorder.view c.args.batch.now.core) (batch_seen g.C.Recorder.view c.turn_one.new.batch) (batch_seen g.C.Recorder.view c.select_and_enable.new.batch) (turn c.args.config.now (event.LinkUp ∷ []) (standing (batch_seen g.C.Recorder.view c.args.batch.now)))
-    rest tt c.select_and_enable.result c.in-Ok.ensures.made c.select_and_enable.ensures.made
+    rest c.select_and_enable.result c.in-Ok.ensures.made c.select_and_enable.ensures.made
 
 pub returns-in-Err-clause-made : goal.returns-in-Err-clause-made
 returns-in-Err-clause-made g c =

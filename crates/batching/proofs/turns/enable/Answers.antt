@@ -6,6 +6,9 @@ use Rattle.batching.specs.Making.{batch_seen, standing, Makes}
 use Rattle.batching.proofs.Making.{Makes-unmade}
 use Rattle.batching.proofs.turns.enable.Goals as goal
 
+pub turn_one-requires-clause-input : goal.turn_one-requires-clause-input
+turn_one-requires-clause-input g c = rw c.told.ensures tt
+
 pub returns-in_default-clause-made : goal.returns-in_default-clause-made
 returns-in_default-clause-made g c =
     Makes-unmade (g.C.Recorder.view c.args.batch.now.core) (batch_seen g.C.Recorder.view c.args.batch.now) (turn c.args.config.now (told (enable_request c.args.config.now.device) ∷ []) (standing (batch_seen g.C.Recorder.view c.args.batch.now))) refl

@@ -5,6 +5,9 @@ use Rattle.batch_model.specs.Batch.{told, turn}
 use Rattle.batching.specs.Making.{batch_seen, standing, Makes}
 use Rattle.batching.proofs.turns.select.Goals as goal
 
+pub turn_one-requires-clause-input : goal.turn_one-requires-clause-input
+turn_one-requires-clause-input g c = rw c.told.ensures tt
+
 pub returns-clause-made : goal.returns-clause-made
 returns-clause-made g c =
     let is : c.told.result ≡ told select_request = c.told.ensures ∙ ap told c.select_request.ensures in

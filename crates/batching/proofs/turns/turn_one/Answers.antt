@@ -5,6 +5,9 @@ use Rattle.batching.specs.Making.{batch_seen, standing, Makes}
 use Rattle.batching.proofs.Making.{Makes-unmade}
 use Rattle.batching.proofs.turns.turn_one.Goals as goal
 
+pub turn-requires-clause-inputs : goal.turn-requires-clause-inputs
+turn-requires-clause-inputs g c = rw c.in-Ok.ensures (c.requires.input, tt)
+
 pub returns-in_default-clause-made : goal.returns-in_default-clause-made
 returns-in_default-clause-made g c =
     Makes-unmade (g.C.Recorder.view c.args.batch.now.core) (batch_seen g.C.Recorder.view c.args.batch.now) (turn c.args.config.now (c.args.event ∷ []) (standing (batch_seen g.C.Recorder.view c.args.batch.now))) refl

@@ -1,5 +1,5 @@
 -- What is done by a Pick, a Place or an Align keeps what holds.
-use Rattle.std.proofs.Common.{◌≡◌, ℕ, Bool, true, false, List, Option, Some, option_map, refl, sym, ◌∙◌, ap, subst}
+use Rattle.std.proofs.Common.{◌≡◌, ℕ, Bool, ◌&&◌, true, false, List, Option, Some, option_map, refl, sym, ◌∙◌, ap, subst}
 use Rattle.gem_tables.specs.Table.{firing}
 use Rattle.gem_ids.specs.declared.numbers.LocId.{LocId}
 use Rattle.gem_ids.specs.declared.numbers.LocId.TheVariants.{Slot, Aligner, Arm, Chamber}
@@ -10,7 +10,7 @@ use Rattle.robot_moves.specs.declared.module.Module.{Module as ToolModule}
 use Rattle.robot_moves.specs.declared.module.Module.TheVariants.{Busy}
 use Rattle.robot_moves.specs.Modules.{module_at}
 use Rattle.substrate.specs.Locations.{is_location}
-use Rattle.substrate.specs.Places.{PlaceMap, is_taken, moved as moved_to}
+use Rattle.substrate.specs.Places.{PlaceMap, is_taken, can_shift, moved as moved_to}
 use Rattle.substrate.specs.declared.registered.Registered.{Registered}
 use Rattle.floor_model.specs.Floor.{ToolFloor, with_module, change_numbered}
 use Rattle.floor_model.specs.Machines.{floor_fired}
@@ -28,7 +28,7 @@ use Rattle.picture_laws.proofs.Closing.{aligning_agrees}
 use Rattle.floor_laws.proofs.EndBase.{Leaves, changed_base}
 use Rattle.floor_laws.proofs.EndNames.{named_place, number_there, named_kept}
 use Rattle.floor_laws.proofs.EndOpen.{command_of, busy_at}
-use Rattle.floor_laws.proofs.EndPlaces.{module_base, moved_base, goes_there, not_taken, chamber_inside, own_inside}
+use Rattle.floor_laws.proofs.EndPlaces.{module_base, moved_base, can_go, goes_there, not_taken, chamber_inside, own_inside}
 use Rattle.place_laws.proofs.Names.{loc_one}
 
 module _ (f : ToolFloor) (sound : Sound f) (m : ℕ) (c : ToolCommand) (fetched : Bool) (here : module_at m f.modules ≡ Some (Busy c fetched)) where
@@ -48,6 +48,7 @@ module _ (f : ToolFloor) (sound : Sound f) (m : ℕ) (c : ToolCommand) (fetched 
     pub fires : floor_fired (firing 16 m 5) f ≡ behind (record f.places { held = moved_to sub to f.places.held })
     pub named : number_named sub f.places ≡ Some (numbered sub f.places)
     pub before : (picture f).place_of (numbered sub f.places) ≡ Some (loc_of from)
+    pub can : ((is_location f.places.ports f.places.chambers from && is_location f.places.ports f.places.chambers to) ≡ true) × (can_shift sub from to f.places.held ≡ true)
     pub inside : is_location f.places.ports f.places.chambers to ≡ true
     pub free : is_taken to f.places.held ≡ false
     pub agrees : Agree (moved (numbered sub f.places) (loc_of to) m (picture f)) (picture (behind (record f.places { held = moved_to sub to f.places.held })))
@@ -60,12 +61,14 @@ module _ (f : ToolFloor) (sound : Sound f) (m : ℕ) (c : ToolCommand) (fetched 
       let at = named_place f.places sound.base.places sub (loc_of from) stands in
       let its = number_there f.places sub at.0 at.1 in
       let free = not_taken f sound.base to empty in
+      let can = can_go sub to from f.places at.0 sound.base.places at.1 (loc_one at.0.at from at.2) inside free in
       record {
         fires = ap (λ (o : Option ToolModule). behind (transferred (open_task o) f.places)) here
             ∙ ap (λ (u : ToolTask). behind (transferred (Some u) f.places)) q
-            ∙ ap behind (does ∙ goes_there sub to from f.places at.0 sound.base.places at.1 (loc_one at.0.at from at.2) inside free);
+            ∙ ap behind (does ∙ goes_there sub to from f.places can);
         named = ap (option_map (λ (r : Registered). r.number)) at.1 ∙ ap (λ (n : ℕ). Some n) (sym its);
         before = stands;
+        can = can;
         inside = inside;
         free = free;
         agrees = subst (λ (n : ℕ). Agree (moved n (loc_of to) m (picture f)) (picture (behind (record f.places { held = moved_to sub to f.places.held })))) (sym its)

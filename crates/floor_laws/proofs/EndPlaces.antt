@@ -79,14 +79,17 @@ module _ (sub : List ℕ) (to : LocId) where
     jobs = record { numbered = b.jobs.numbered; given = b.jobs.given; members = b.jobs.members };
   }
 
-  -- it goes there
-  pub goes_there : (from : LocId) (p : PlaceMap) (r : Registered) → ArePlaces p → substrate_named sub p.held ≡ Some r → r.at ≡ from → is_location p.ports p.chambers to ≡ true → is_taken to p.held ≡ false → goes sub from to p ≡ record p { held = moved sub to p.held }
-  goes_there from p r a named at there free =
+  -- it can go there: both are places of the tool, it is at the one, and nobody is at the other
+  pub can_go : (from : LocId) (p : PlaceMap) (r : Registered) → ArePlaces p → substrate_named sub p.held ≡ Some r → r.at ≡ from → is_location p.ports p.chambers to ≡ true → is_taken to p.held ≡ false
+      → ((is_location p.ports p.chambers from && is_location p.ports p.chambers to) ≡ true) × (can_shift sub from to p.held ≡ true)
+  can_go from p r a named at there free =
       let inside : is_location p.ports p.chambers from ≡ true = sym (ap (is_location p.ports p.chambers) at) ∙ found_all (λ x. is_location p.ports p.chambers x.at) sub p.held r a.within named in
       let stands : is_there from (substrate_named sub p.held) ≡ true = ap (is_there from) named ∙ ap (λ (l : LocId). is_same l from) at ∙ same_place from in
-      let can : can_shift sub from to p.held ≡ true = both (is_there from (substrate_named sub p.held)) (not (is_taken to p.held)) stands (ap not free) in
-      ap (λ (b : Bool). if b then shifted sub from to p else p) (both (is_location p.ports p.chambers from) (is_location p.ports p.chambers to) inside there)
-      ∙ ap (λ (b : Bool). if b then record p { held = moved sub to p.held } else p) can
+      (both (is_location p.ports p.chambers from) (is_location p.ports p.chambers to) inside there, both (is_there from (substrate_named sub p.held)) (not (is_taken to p.held)) stands (ap not free))
+
+  -- so it goes there
+  pub goes_there : (from : LocId) (p : PlaceMap) → ((is_location p.ports p.chambers from && is_location p.ports p.chambers to) ≡ true) × (can_shift sub from to p.held ≡ true) → goes sub from to p ≡ record p { held = moved sub to p.held }
+  goes_there from p can = ap (λ (b : Bool). if b then shifted sub from to p else p) can.0 ∙ ap (λ (b : Bool). if b then record p { held = moved sub to p.held } else p) can.1
 
 -- ---- where it may go
 

@@ -8,3 +8,4 @@ pub mod Carrying
 pub mod Completing
 pub mod Working
 pub mod Moved
+pub mod Found

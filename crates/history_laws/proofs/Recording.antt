@@ -13,10 +13,11 @@ use Rattle.gem_model.proofs.Reporting.{run-reported, run-texts, run-sent, run-fr
 use Rattle.gem_model.proofs.Validity.{run-line, run-sendings, run-empty, run-room}
 use Rattle.gem_model.proofs.NoteNumbers.{run-own}
 use Rattle.gem_model.proofs.Floored.{run-floor, run-carriers}
-use Rattle.history_laws.proofs.Placed.{run-placed}
+use Rattle.history_laws.proofs.Placed.{run_at, run-placed}
 use Rattle.history_laws.proofs.Working.{run-works}
 use Rattle.history_laws.proofs.Completing.{run-completes}
 use Rattle.history_laws.proofs.Moved.{run-moves, run-ends-once, run-given}
+use Rattle.history_laws.proofs.Found.{rest-occupied, sound-met}
 use Rattle.floor_laws.proofs.FloorPlaces.{one_place_sound}
 
 pub recorded-of : (c : Config) (history : List Entry) (g : State) → IsConfig c → Run (opening c) history g → Recorded c history g
@@ -38,6 +39,8 @@ recorded-of c history g bounds run =
       floor = run-floor c history g ports run;
       carriers = run-carriers c history g ports run;
       places = one_place_sound g.floor (run-placed c history g ports run);
+      occupied = rest-occupied g.floor (run_at c history g ports run).rest;
+      met = sound-met g.floor (run-placed c history g ports run);
       registered = (run-placed c history g ports run).base.registered;
       given = run-given c history g ports run;
       moves = run-moves c history g ports run;

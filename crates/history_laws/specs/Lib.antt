@@ -1,3 +1,4 @@
 pub mod Recorded
 pub mod Moved
 pub mod Completes
+pub mod Found

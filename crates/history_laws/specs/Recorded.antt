@@ -16,6 +16,7 @@ use Rattle.gem_model.specs.State.{State, opening}
 use Rattle.gem_model.specs.Run.{Run}
 use Rattle.history_laws.specs.Moved.{place_of, EachMoves, EndsOnce}
 use Rattle.history_laws.specs.Completes.{EachCompletes}
+use Rattle.history_laws.specs.Found.{AreOccupied, AreMet}
 use Rattle.gem_model.specs.Reported.{told_as, reported_in, IsOf}
 use Rattle.gem_model.specs.OpenNotes.{Carries, NeverBack, open_behind, frames_behind, note_numbers, open_number}
 
@@ -46,6 +47,10 @@ pub record Recorded (c : Config) (history : List Entry) (g : State) : Type 0 whe
   pub carriers : length g.floor.shop.carriers ≤ 16
   -- each substrate has one place, and open commands fit the places
   pub places : OnePlace (picture g.floor)
+  -- each location is OCCUPIED, by table 11, exactly where a substrate is there
+  pub occupied : AreOccupied g.floor
+  -- Done of an open Pick or Place meets no place that is taken or left: what it names is at the start, and nobody is at the end
+  pub met : AreMet g.floor
   -- no registration was refused: where the slot map of a carrier is VERIFIED, the substrate of each slot that is correctly occupied
   -- is registered
   pub registered : AllByRecursion (AreRegistered g.floor.substrates) g.floor.shop.carriers

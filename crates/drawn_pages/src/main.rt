@@ -13,7 +13,7 @@ fn compare(rt: &HostRuntime, alloc: Global, name: &str, chart: Chart) -> Result<
     let drawn = draw_chart(alloc, chart)?;
     let path = format!(in alloc; "{name}.svg")?;
     let is_same = match fs::read(rt, path.as_str()) {
-        Ok(shipped) => shipped.as_slice() == drawn.as_bytes(),
+        Ok(shipped) => shipped.as_slice() == drawn.as_slice(),
         Err(_) => false,
     };
     let verdict = if is_same {
@@ -37,7 +37,8 @@ fn compare_all(rt: &HostRuntime, alloc: Global) -> Result<(), AllocError> {
 fn print_all(rt: &HostRuntime, alloc: Global) -> Result<(), AllocError> {
     for (name, chart) in names() {
         let drawn = draw_chart(alloc, *chart)?;
-        let all = format!(in alloc; "@ {name}\n{drawn}")?;
+        let text = String::from_utf8_lossy(alloc, drawn.as_slice())?;
+        let all = format!(in alloc; "@ {name}\n{text}")?;
         let _ = rt.print(all.as_str());
     }
     Ok(())

@@ -1,8 +1,8 @@
 //! The sheet: which class has which colour, on a light page and on a dark one.
 
 /// The sheet of all pictures. The colours of `on-arm` to `lost` are of the palette of Okabe and Ito, which the colour-blind can tell.
-pub(crate) const SHEET: &str = "<style>
-text { font-family: Helvetica, Arial, 'Liberation Sans', sans-serif; font-size: 12px; fill: #1f2328; }
+pub(crate) const SHEET: &str =
+    "text { font-family: Helvetica, Arial, 'Liberation Sans', sans-serif; font-size: 12px; fill: #1f2328; }
 .page { fill: #ffffff; }
 .name { font-size: 13px; font-weight: bold; }
 .small { font-size: 11px; }
@@ -11,6 +11,7 @@ text { font-family: Helvetica, Arial, 'Liberation Sans', sans-serif; font-size: 
 .state { fill: #e3effc; stroke: #0550ae; stroke-width: 1.5; }
 .group { fill: none; stroke: #8c959f; stroke-width: 1.2; stroke-dasharray: 5 4; }
 .way { fill: none; stroke: #4d5761; stroke-width: 1.5; }
+.same { fill: none; opacity: 0; }
 .astray { fill: none; stroke: #b3261e; stroke-width: 1.5; stroke-dasharray: 2 3; }
 .tip { fill: #4d5761; }
 .dot { fill: #4d5761; }
@@ -48,6 +49,8 @@ text { fill: #e6edf3; }
 .mark { stroke: #e6edf3; }
 .alarm { stroke: #0d1117; }
 }
-</style>
-<defs><marker id=\"tip\" viewBox=\"0 0 10 10\" refX=\"9\" refY=\"5\" markerWidth=\"9\" markerHeight=\"9\" markerUnits=\"userSpaceOnUse\" orient=\"auto\"><path class=\"tip\" d=\"M0 0.8 L10 5 L0 9.2 Z\"/></marker></defs>
 ";
+
+/// The tip of arrows.
+pub(crate) const MARKS: &[u8] =
+    b"<defs><marker id=\"tip\" viewBox=\"0 0 10 10\" refX=\"9\" refY=\"5\" markerWidth=\"9\" markerHeight=\"9\" markerUnits=\"userSpaceOnUse\" orient=\"auto\"><polygon class=\"tip\" points=\"0,0.8 10,5 0,9.2\"/></marker></defs>\n";

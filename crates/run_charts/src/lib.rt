@@ -34,7 +34,7 @@ pub fn run_chart<C: Source, S: Source, K: Sink>(
     let Ok(chart) = chart_of(alloc, &config, ended.history) else {
         return Cause::NoMemory;
     };
-    match write_all(out, chart.as_bytes()) {
+    match write_all(out, chart.as_slice()) {
         Ok(()) => ended.cause,
         Err(_) => Cause::WriteFault,
     }

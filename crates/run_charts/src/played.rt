@@ -148,7 +148,7 @@ pub(crate) fn chart_of(
     alloc: Global,
     config: &Config,
     history: Entries,
-) -> Result<String, AllocError>
+) -> Result<Vec<u8>, AllocError>
     requires { IsConfig config.now }
 {
     let mut place = Place::new(history.as_slice());

@@ -1,6 +1,6 @@
 -- The arrows of a transition table, as a picture of it shows them (this tool's profile, transition tables; after the state models of
 -- SEMI E30, E40, E87, E90 and E94).
-use Rattle.std.specs.Prelude.{ℕ, zero, suc, ◌==◌, Bool, true, false, ◌&&◌, ◌||◌, if◌then◌else◌, List, [], ◌∷◌, ◌++◌, filter_map, Option, Some, None}
+use Rattle.std.specs.Prelude.{ℕ, zero, suc, ◌==◌, Bool, true, false, not, ◌&&◌, ◌||◌, if◌then◌else◌, List, [], ◌∷◌, ◌++◌, filter_map, Option, Some, None}
 use Rattle.gem_tables.specs.Table.{Row, is_creation}
 use Rattle.state_arrows.specs.declared.arrow.Arrow.{Arrow}
 
@@ -60,6 +60,11 @@ are_among (a ∷ rest) bs = is_one_of bs a && are_among rest bs
 -- the same arrows, in whatever order: each of the first is one of the second, and each of the second one of the first
 abbrev pub are_same : List Arrow → List Arrow → Bool
 are_same xs ys = are_among xs ys && are_among ys xs
+
+-- no arrow stands twice
+abbrev pub are_apart : List Arrow → Bool
+are_apart [] = true
+are_apart (a ∷ rest) = not (is_one_of rest a) && are_apart rest
 
 -- ---- of states that are asked
 

@@ -3,7 +3,7 @@
 ghost use Rattle.std.specs.Prelude.{◌≡◌, true, IfOk};
 ghost use Rattle.gem_tables.specs.Table.{starts, after};
 ghost use Rattle.carrier.specs.Tables.{id_number, id_table, map_number, map_table, access_number, accessing_table};
-ghost use Rattle.state_arrows.specs.Arrows.{answered, are_same};
+ghost use Rattle.state_arrows.specs.Arrows.{answered, are_same, are_apart};
 ghost use Rattle.state_arrows.specs.Tables.{carrier_id_arrows, slot_map_arrows, accessing_arrows};
 
 use crate::arrow::{Arrow, arrow_where, creation};
@@ -47,7 +47,8 @@ impl Asked for Accessing {
 
 /// The arrows of table 8, with that of the row that creates a carrier.
 pub(crate) fn carrier_id(alloc: Global) -> Result<Vec<Arrow>, AllocError>
-    ensures { IfOk result (λ arrows. are_same arrows.items carrier_id_arrows ≡ true) }
+    ensures same { IfOk result (λ arrows. are_same arrows.items carrier_id_arrows ≡ true) }
+    ensures once { IfOk result (λ arrows. are_apart arrows.items ≡ true) }
 {
     let states = [
         IdState::NotRead,
@@ -65,7 +66,8 @@ pub(crate) fn carrier_id(alloc: Global) -> Result<Vec<Arrow>, AllocError>
 
 /// The arrows of table 9.
 pub(crate) fn slot_map(alloc: Global) -> Result<Vec<Arrow>, AllocError>
-    ensures { IfOk result (λ arrows. are_same arrows.items slot_map_arrows ≡ true) }
+    ensures same { IfOk result (λ arrows. are_same arrows.items slot_map_arrows ≡ true) }
+    ensures once { IfOk result (λ arrows. are_apart arrows.items ≡ true) }
 {
     let states = [
         MapState::NotRead,
@@ -78,7 +80,8 @@ pub(crate) fn slot_map(alloc: Global) -> Result<Vec<Arrow>, AllocError>
 
 /// The arrows of table 10.
 pub(crate) fn accessing(alloc: Global) -> Result<Vec<Arrow>, AllocError>
-    ensures { IfOk result (λ arrows. are_same arrows.items accessing_arrows ≡ true) }
+    ensures same { IfOk result (λ arrows. are_same arrows.items accessing_arrows ≡ true) }
+    ensures once { IfOk result (λ arrows. are_apart arrows.items ≡ true) }
 {
     let states = [
         Accessing::NotAccessed,

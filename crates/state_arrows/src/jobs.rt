@@ -5,7 +5,7 @@ ghost use Rattle.gem_tables.specs.Table.{starts, after};
 ghost use Rattle.process_job.specs.Tables.{job_number, job_table};
 ghost use Rattle.control_job.specs.Record.{control_starts, control_fired};
 ghost use Rattle.control_job.specs.Tables.{states_number};
-ghost use Rattle.state_arrows.specs.Arrows.{answered, are_same};
+ghost use Rattle.state_arrows.specs.Arrows.{answered, are_same, are_apart};
 ghost use Rattle.state_arrows.specs.Tables.{process_job_arrows, control_job_arrows, is_ending_row, ended};
 
 use crate::arrow::{Arrow, arrow_where, creation};
@@ -66,7 +66,8 @@ impl Asked for ControlJobRecord {
 
 /// The arrows of table 14, with that of the row that creates a process job. Those with which it ends lead nowhere.
 pub(crate) fn process_jobs(alloc: Global) -> Result<Vec<Arrow>, AllocError>
-    ensures { IfOk result (λ arrows. are_same arrows.items process_job_arrows ≡ true) }
+    ensures same { IfOk result (λ arrows. are_same arrows.items process_job_arrows ≡ true) }
+    ensures once { IfOk result (λ arrows. are_apart arrows.items ≡ true) }
 {
     let states = [
         JobState::Queued,
@@ -89,7 +90,8 @@ pub(crate) fn process_jobs(alloc: Global) -> Result<Vec<Arrow>, AllocError>
 
 /// The arrows of table 15, with that of the row that creates a control job. The states are numbered as `number_of` says.
 pub(crate) fn control_jobs(alloc: Global) -> Result<Vec<Arrow>, AllocError>
-    ensures { IfOk result (λ arrows. are_same arrows.items control_job_arrows ≡ true) }
+    ensures same { IfOk result (λ arrows. are_same arrows.items control_job_arrows ≡ true) }
+    ensures once { IfOk result (λ arrows. are_apart arrows.items ≡ true) }
 {
     let states = [
         ControlJobRecord {

@@ -3,7 +3,7 @@
 ghost use Rattle.std.specs.Prelude.{◌≡◌, true, IfOk};
 ghost use Rattle.gem_states.specs.Communication.{comm_number, comm_starts, comm_fired};
 ghost use Rattle.gem_states.specs.Control.{control_number, control_starts, control_fired};
-ghost use Rattle.state_arrows.specs.Arrows.{answered, are_same};
+ghost use Rattle.state_arrows.specs.Arrows.{answered, are_same, are_apart};
 ghost use Rattle.state_arrows.specs.Tables.{communication_arrows, control_arrows};
 
 use crate::arrow::{Arrow, arrow_where};
@@ -35,7 +35,8 @@ impl Asked for Control {
 
 /// The arrows of table 1.
 pub(crate) fn communication(alloc: Global) -> Result<Vec<Arrow>, AllocError>
-    ensures { IfOk result (λ arrows. are_same arrows.items communication_arrows ≡ true) }
+    ensures same { IfOk result (λ arrows. are_same arrows.items communication_arrows ≡ true) }
+    ensures once { IfOk result (λ arrows. are_apart arrows.items ≡ true) }
 {
     let states = [
         Comm::Disabled,
@@ -48,7 +49,8 @@ pub(crate) fn communication(alloc: Global) -> Result<Vec<Arrow>, AllocError>
 
 /// The arrows of table 2.
 pub(crate) fn control(alloc: Global) -> Result<Vec<Arrow>, AllocError>
-    ensures { IfOk result (λ arrows. are_same arrows.items control_arrows ≡ true) }
+    ensures same { IfOk result (λ arrows. are_same arrows.items control_arrows ≡ true) }
+    ensures once { IfOk result (λ arrows. are_apart arrows.items ≡ true) }
 {
     let states = [
         Control::EquipmentOffline,

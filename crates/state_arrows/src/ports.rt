@@ -3,7 +3,7 @@
 ghost use Rattle.std.specs.Prelude.{◌≡◌, true, IfOk};
 ghost use Rattle.gem_tables.specs.Table.{starts, after};
 ghost use Rattle.load_port.specs.Tables.{transfer_number, transfer_table, access_number, access_table, reservation_number, reservation_table, association_number, association_table};
-ghost use Rattle.state_arrows.specs.Arrows.{answered, are_same};
+ghost use Rattle.state_arrows.specs.Arrows.{answered, are_same, are_apart};
 ghost use Rattle.state_arrows.specs.Tables.{transfer_arrows, access_arrows, reservation_arrows, association_arrows};
 
 use crate::arrow::{Arrow, arrow_where};
@@ -58,7 +58,8 @@ impl Asked for Association {
 
 /// The arrows of table 4.
 pub(crate) fn transfer(alloc: Global) -> Result<Vec<Arrow>, AllocError>
-    ensures { IfOk result (λ arrows. are_same arrows.items transfer_arrows ≡ true) }
+    ensures same { IfOk result (λ arrows. are_same arrows.items transfer_arrows ≡ true) }
+    ensures once { IfOk result (λ arrows. are_apart arrows.items ≡ true) }
 {
     let states = [
         Transfer::OutOfService,
@@ -71,14 +72,16 @@ pub(crate) fn transfer(alloc: Global) -> Result<Vec<Arrow>, AllocError>
 
 /// The arrows of table 5.
 pub(crate) fn access(alloc: Global) -> Result<Vec<Arrow>, AllocError>
-    ensures { IfOk result (λ arrows. are_same arrows.items access_arrows ≡ true) }
+    ensures same { IfOk result (λ arrows. are_same arrows.items access_arrows ≡ true) }
+    ensures once { IfOk result (λ arrows. are_apart arrows.items ≡ true) }
 {
     gather(alloc, None, 2, &[Access::Manual, Access::Auto])
 }
 
 /// The arrows of table 6.
 pub(crate) fn reservation(alloc: Global) -> Result<Vec<Arrow>, AllocError>
-    ensures { IfOk result (λ arrows. are_same arrows.items reservation_arrows ≡ true) }
+    ensures same { IfOk result (λ arrows. are_same arrows.items reservation_arrows ≡ true) }
+    ensures once { IfOk result (λ arrows. are_apart arrows.items ≡ true) }
 {
     gather(
         alloc,
@@ -90,7 +93,8 @@ pub(crate) fn reservation(alloc: Global) -> Result<Vec<Arrow>, AllocError>
 
 /// The arrows of table 7.
 pub(crate) fn association(alloc: Global) -> Result<Vec<Arrow>, AllocError>
-    ensures { IfOk result (λ arrows. are_same arrows.items association_arrows ≡ true) }
+    ensures same { IfOk result (λ arrows. are_same arrows.items association_arrows ≡ true) }
+    ensures once { IfOk result (λ arrows. are_apart arrows.items ≡ true) }
 {
     gather(
         alloc,

@@ -4,7 +4,7 @@ ghost use Rattle.std.specs.Prelude.{◌≡◌, true, IfOk, Option, Some, None, i
 ghost use Rattle.gem_tables.specs.Table.{starts, after};
 ghost use Rattle.substrate.specs.Tables.{occupancy_number, occupancy_table, transport_number, transport_table, processing_number, processing_table};
 ghost use Rattle.robot_moves.specs.Tables.{state_number, move_table};
-ghost use Rattle.state_arrows.specs.Arrows.{answered, are_same};
+ghost use Rattle.state_arrows.specs.Arrows.{answered, are_same, are_apart};
 ghost use Rattle.state_arrows.specs.Tables.{location_arrows, transport_arrows, processing_arrows, module_arrows};
 
 use crate::arrow::{Arrow, arrow_where, creation};
@@ -85,7 +85,8 @@ impl Asked for ModuleState {
 
 /// The arrows of table 11.
 pub(crate) fn location(alloc: Global) -> Result<Vec<Arrow>, AllocError>
-    ensures { IfOk result (λ arrows. are_same arrows.items location_arrows ≡ true) }
+    ensures same { IfOk result (λ arrows. are_same arrows.items location_arrows ≡ true) }
+    ensures once { IfOk result (λ arrows. are_apart arrows.items ≡ true) }
 {
     gather(
         alloc,
@@ -97,7 +98,8 @@ pub(crate) fn location(alloc: Global) -> Result<Vec<Arrow>, AllocError>
 
 /// The arrows of table 12, with that of the row of a registration.
 pub(crate) fn transport(alloc: Global) -> Result<Vec<Arrow>, AllocError>
-    ensures { IfOk result (λ arrows. are_same arrows.items transport_arrows ≡ true) }
+    ensures same { IfOk result (λ arrows. are_same arrows.items transport_arrows ≡ true) }
+    ensures once { IfOk result (λ arrows. are_apart arrows.items ≡ true) }
 {
     let states = [
         Transport::AtSource,
@@ -114,7 +116,8 @@ pub(crate) fn transport(alloc: Global) -> Result<Vec<Arrow>, AllocError>
 
 /// The arrows of table 13, with that of the row of a registration.
 pub(crate) fn processing(alloc: Global) -> Result<Vec<Arrow>, AllocError>
-    ensures { IfOk result (λ arrows. are_same arrows.items processing_arrows ≡ true) }
+    ensures same { IfOk result (λ arrows. are_same arrows.items processing_arrows ≡ true) }
+    ensures once { IfOk result (λ arrows. are_apart arrows.items ≡ true) }
 {
     let states = [
         Processing::NeedsProcessing,
@@ -136,7 +139,8 @@ pub(crate) fn processing(alloc: Global) -> Result<Vec<Arrow>, AllocError>
 
 /// The arrows of table 16.
 pub(crate) fn modules(alloc: Global) -> Result<Vec<Arrow>, AllocError>
-    ensures { IfOk result (λ arrows. are_same arrows.items module_arrows ≡ true) }
+    ensures same { IfOk result (λ arrows. are_same arrows.items module_arrows ≡ true) }
+    ensures once { IfOk result (λ arrows. are_apart arrows.items ≡ true) }
 {
     let states = [ModuleState::Idle, ModuleState::Busy, ModuleState::Down];
     gather(alloc, None, 10, &states)

@@ -1,7 +1,7 @@
 //! The tables, and their arrows.
 
 ghost use Rattle.std.specs.Prelude.{◌≡◌, true, IfOk};
-ghost use Rattle.state_arrows.specs.Arrows.{are_same};
+ghost use Rattle.state_arrows.specs.Arrows.{are_same, are_apart};
 ghost use Rattle.state_arrows.specs.Tables.{arrows_of};
 
 use crate::arrow::Arrow;
@@ -31,12 +31,13 @@ pub enum StateTable {
 }
 
 /// The arrows of a table. They are those of the table as it is printed: each of them is a row that starts in the state from which it comes
-/// and leads where it leads, and each row has one from each state in which it starts. A row by which an object is created comes from no
-/// state, and one with which a process job ends leads to none. States are told by their numbers, as variables print them; those of a control
-/// job by the number of its state, and 6 more where it is ending by stop, 12 more where it is by abort. `AllocError` where there is no
-/// memory.
+/// and leads where it leads, each row has one from each state in which it starts, and none stands twice. A row by which an object is created
+/// comes from no state, and one with which a process job ends leads to none. States are told by their numbers, as variables print them;
+/// those of a control job by the number of its state, and 6 more where it is ending by stop, 12 more where it is by abort. `AllocError`
+/// where there is no memory.
 pub fn arrows(alloc: Global, table: StateTable) -> Result<Vec<Arrow>, AllocError>
-    ensures { IfOk result (λ arrows. are_same arrows.items (arrows_of table) ≡ true) }
+    ensures same { IfOk result (λ arrows. are_same arrows.items (arrows_of table) ≡ true) }
+    ensures once { IfOk result (λ arrows. are_apart arrows.items ≡ true) }
 {
     match table {
         StateTable::Communication => link::communication(alloc),

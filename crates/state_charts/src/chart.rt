@@ -1,8 +1,13 @@
 //! The pictures by their names.
 
+ghost use Rattle.std.specs.Prelude.{◌≡◌, true, IfOk};
+ghost use Rattle.picture_svg.specs.Arrows.{arrows_in};
+ghost use Rattle.state_arrows.specs.Arrows.{are_same, are_apart};
+ghost use Rattle.state_charts.specs.Shown.{AreNamesOf, arrows_of_chart};
+
 use crate::draw::draw;
 use crate::layout::Layout;
-use crate::{layouts, told};
+use crate::{layouts, table_three};
 use state_arrows::{Arrow, StateTable, arrows};
 use std::alloc::{AllocError, Global};
 
@@ -87,18 +92,23 @@ fn layout_of(chart: Chart) -> Layout {
 }
 
 // The arrows of a picture.
-fn arrows_of(alloc: Global, chart: Chart) -> Result<Vec<Arrow>, AllocError> {
+fn chart_arrows(alloc: Global, chart: Chart) -> Result<Vec<Arrow>, AllocError>
+    ensures same { IfOk result (λ arrows. are_same arrows.items (arrows_of_chart chart) ≡ true) }
+    ensures once { IfOk result (λ arrows. are_apart arrows.items ≡ true) }
+{
     match chart {
         Chart::Table(table) => arrows(alloc, table),
-        Chart::SpoolLoad => told::spool_load(alloc),
-        Chart::SpoolUnload => told::spool_unload(alloc),
-        Chart::Notes => told::notes(alloc),
+        Chart::SpoolLoad => table_three::spool_load(alloc),
+        Chart::SpoolUnload => table_three::spool_unload(alloc),
+        Chart::Notes => table_three::notes(alloc),
     }
 }
 
-/// The picture as SVG text. Each arrow of `state_arrows::arrows` is drawn, once or with others that start in each state of a frame and lead
-/// to the same state, and no other is. `AllocError` where there is no memory.
-pub fn draw_chart(alloc: Global, chart: Chart) -> Result<String, AllocError> {
-    let arrows = arrows_of(alloc, chart)?;
+/// The picture as SVG text. Each arrow of its table is drawn in it once, under its name (docs/profile/charts.md), and no other is. Of
+/// arrows that start in each state of a frame, or have the same ends, the line of the first is seen. `AllocError` where there is no memory.
+pub fn draw_chart(alloc: Global, chart: Chart) -> Result<Vec<u8>, AllocError>
+    ensures { IfOk result (λ text. AreNamesOf (arrows_of_chart chart) (arrows_in text.items)) }
+{
+    let arrows = chart_arrows(alloc, chart)?;
     draw(alloc, &layout_of(chart), &arrows)
 }

@@ -1,7 +1,12 @@
 //! The drawing of a layout with its arrows.
 
+ghost use Rattle.std.specs.Prelude.{◌≡◌, true, [], ◌∷◌, ◌++◌, map, OnOk, IfOk};
+ghost use Rattle.picture_svg.specs.Arrows.{arrows_in, is_name};
+ghost use Rattle.state_charts.specs.Names.{arrow_name};
+
+use crate::arrow_names::name_of;
 use crate::layout::{Frame, HALF, HEAD, Layout, Shape, Way, point};
-use crate::ways::{is_laid, next_row};
+use crate::ways::{is_first, next_row, way_of};
 use picture_svg::{Align, Area, Picture, Point};
 use state_arrows::Arrow;
 use std::alloc::{AllocError, Global};
@@ -14,7 +19,9 @@ const LABEL: f64 = 17.0;
 
 const LETTER: f64 = 6.4;
 
-fn draw_frame(picture: &mut Picture, frame: &Frame) -> Result<(), AllocError> {
+fn draw_frame(picture: &mut Picture, frame: &Frame) -> Result<(), AllocError>
+    ensures { picture.new ≡ picture.old }
+{
     let corner = point(frame.corner);
     let area = Area {
         x: corner.x,
@@ -32,7 +39,9 @@ fn draw_name(
     below: f64,
     class: &str,
     name: &str,
-) -> Result<(), AllocError> {
+) -> Result<(), AllocError>
+    ensures { picture.new ≡ picture.old }
+{
     let at = Point {
         x: middle.x,
         y: middle.y + below,
@@ -40,7 +49,9 @@ fn draw_name(
     picture.words(class, at, Align::Middle, name)
 }
 
-fn draw_shape(picture: &mut Picture, shape: &Shape) -> Result<(), AllocError> {
+fn draw_shape(picture: &mut Picture, shape: &Shape) -> Result<(), AllocError>
+    ensures { picture.new ≡ picture.old }
+{
     let middle = point(shape.at);
     let width = f64::from(shape.width);
     let area = Area {
@@ -73,7 +84,9 @@ fn label_of(alloc: Global, arrows: &[Arrow], way: &Way) -> Result<String, AllocE
     Ok(label)
 }
 
-fn draw_label(picture: &mut Picture, middle: Point, label: &str) -> Result<(), AllocError> {
+fn draw_label(picture: &mut Picture, middle: Point, label: &str) -> Result<(), AllocError>
+    ensures { picture.new ≡ picture.old }
+{
     let width = wide(label);
     let area = Area {
         x: middle.x - width / 2.0,
@@ -104,7 +117,9 @@ fn points(alloc: Global, way: &Way) -> Result<Vec<Point>, AllocError> {
 }
 
 // The dot from which a creation comes, or the ringed one to which an end leads.
-fn draw_ends(picture: &mut Picture, way: &Way) -> Result<(), AllocError> {
+fn draw_ends(picture: &mut Picture, way: &Way) -> Result<(), AllocError>
+    ensures { picture.new ≡ picture.old }
+{
     if way.from.is_empty()
         && let Some(first) = way.line.first()
     {
@@ -121,22 +136,24 @@ fn draw_ends(picture: &mut Picture, way: &Way) -> Result<(), AllocError> {
     Ok(())
 }
 
+// The ends and the label of a way, where an arrow goes it.
 fn draw_way(
     alloc: Global,
     picture: &mut Picture,
     arrows: &[Arrow],
     way: &Way,
-) -> Result<(), AllocError> {
+) -> Result<(), AllocError>
+    ensures { picture.new ≡ picture.old }
+{
     if next_row(arrows, way, 0).is_none() {
         return Ok(());
     }
     let label = label_of(alloc, arrows, way)?;
-    picture.arrow("way", &points(alloc, way)?)?;
     draw_ends(picture, way)?;
-    if !label.is_empty() {
-        draw_label(picture, point(way.label), label.as_str())?;
+    if label.is_empty() {
+        return Ok(());
     }
-    Ok(())
+    draw_label(picture, point(way.label), label.as_str())
 }
 
 // The middle of a state's box; where there is none, the corner of the picture.
@@ -149,17 +166,42 @@ fn middle_of(layout: &Layout, state: Option<u8>) -> Point {
     Point { x: 10.0, y: HEAD }
 }
 
+// The class of an arrow that goes a way. Of those that go the same way the line of the first is seen.
+fn class_of(arrows: &[Arrow], way: &Way, arrow: &Arrow) -> &'static str {
+    if is_first(arrows, way, arrow) {
+        "way"
+    } else {
+        "same"
+    }
+}
+
 // An arrow for which no way is laid out: straight, and in another colour, so that it is seen that one is wanting.
 fn draw_astray(
+    picture: &mut Picture,
+    layout: &Layout,
+    arrow: &Arrow,
+    name: &[u8],
+) -> Result<(), AllocError>
+    requires { is_name name.now ≡ true }
+    ensures { OnOk result (picture.new ≡ picture.old ++ name.now ∷ []) }
+{
+    let from = middle_of(layout, arrow.from);
+    let to = middle_of(layout, arrow.to);
+    picture.arrow(name, "astray", &[from, to])
+}
+
+// Its label.
+fn label_astray(
     alloc: Global,
     picture: &mut Picture,
     layout: &Layout,
     arrow: &Arrow,
-) -> Result<(), AllocError> {
+) -> Result<(), AllocError>
+    ensures { picture.new ≡ picture.old }
+{
     let from = middle_of(layout, arrow.from);
     let to = middle_of(layout, arrow.to);
     let row = arrow.row;
-    picture.arrow("astray", &[from, to])?;
     let middle = Point {
         x: (from.x + to.x) / 2.0,
         y: (from.y + to.y) / 2.0,
@@ -167,30 +209,89 @@ fn draw_astray(
     draw_label(picture, middle, format!(in alloc; "{row}")?.as_str())
 }
 
-/// The picture of a layout with these arrows, as SVG text.
-pub(crate) fn draw(alloc: Global, layout: &Layout, arrows: &[Arrow]) -> Result<String, AllocError> {
+// An arrow, along its way where one is laid out for it.
+fn draw_arrow(
+    alloc: Global,
+    picture: &mut Picture,
+    layout: &Layout,
+    arrows: &[Arrow],
+    arrow: &Arrow,
+) -> Result<(), AllocError>
+    ensures { OnOk result (picture.new ≡ picture.old ++ arrow_name arrow.now ∷ []) }
+{
+    let name = name_of(alloc, arrow)?;
+    match way_of(arrows, layout.ways, arrow) {
+        Some(way) => {
+            let line = points(alloc, way)?;
+            picture.arrow(
+                name.as_slice(),
+                class_of(arrows, way, arrow),
+                line.as_slice(),
+            )
+        }
+        None => draw_astray(picture, layout, arrow, name.as_slice()),
+    }
+}
+
+// The frames and the states.
+fn draw_states(picture: &mut Picture, layout: &Layout) -> Result<(), AllocError>
+    ensures { picture.new ≡ picture.old }
+{
+    for frame in layout.frames {
+        draw_frame(picture, frame)?;
+    }
+    for shape in layout.shapes {
+        draw_shape(picture, shape)?;
+    }
+    Ok(())
+}
+
+// The arrows.
+fn draw_arrows(
+    alloc: Global,
+    picture: &mut Picture,
+    layout: &Layout,
+    arrows: &[Arrow],
+) -> Result<(), AllocError>
+    ensures { OnOk result (picture.new ≡ picture.old ++ map arrow_name arrows.now) }
+{
+    for arrow in arrows {
+        draw_arrow(alloc, picture, layout, arrows, arrow)?;
+    }
+    Ok(())
+}
+
+// The labels of the arrows, and the dots at their ends.
+fn draw_labels(
+    alloc: Global,
+    picture: &mut Picture,
+    layout: &Layout,
+    arrows: &[Arrow],
+) -> Result<(), AllocError>
+    ensures { picture.new ≡ picture.old }
+{
+    for way in layout.ways {
+        draw_way(alloc, picture, arrows, way)?;
+    }
+    for arrow in arrows {
+        if way_of(arrows, layout.ways, arrow).is_none() {
+            label_astray(alloc, picture, layout, arrow)?;
+        }
+    }
+    Ok(())
+}
+
+/// The picture of a layout with these arrows, as SVG text: its arrows are these, in their order.
+pub(crate) fn draw(alloc: Global, layout: &Layout, arrows: &[Arrow]) -> Result<Vec<u8>, AllocError>
+    ensures { IfOk result (λ text. arrows_in text.items ≡ map arrow_name arrows.now) }
+{
     let width = f64::from(layout.size.0);
     let height = f64::from(layout.size.1) + HEAD;
     let mut picture = Picture::new(alloc, width, height, layout.title)?;
-    picture.words(
-        "faint",
-        Point { x: 10.0, y: 18.0 },
-        Align::Start,
-        layout.title,
-    )?;
-    for frame in layout.frames {
-        draw_frame(&mut picture, frame)?;
-    }
-    for shape in layout.shapes {
-        draw_shape(&mut picture, shape)?;
-    }
-    for way in layout.ways {
-        draw_way(alloc, &mut picture, arrows, way)?;
-    }
-    for arrow in arrows {
-        if !is_laid(arrows, layout.ways, arrow) {
-            draw_astray(alloc, &mut picture, layout, arrow)?;
-        }
-    }
+    let corner = Point { x: 10.0, y: 18.0 };
+    picture.words("faint", corner, Align::Start, layout.title)?;
+    draw_states(&mut picture, layout)?;
+    draw_arrows(alloc, &mut picture, layout, arrows)?;
+    draw_labels(alloc, &mut picture, layout, arrows)?;
     picture.finish()
 }

@@ -42,11 +42,30 @@ fn starts(way: &Way, arrow: &Arrow) -> bool {
     }
 }
 
-/// Whether an arrow goes one of these ways.
-pub(crate) fn is_laid(arrows: &[Arrow], ways: &[Way], arrow: &Arrow) -> bool {
+// Whether an arrow goes a way.
+fn is_of(arrows: &[Arrow], way: &Way, arrow: &Arrow) -> bool {
+    way.to == arrow.to && starts(way, arrow) && goes(arrows, way, arrow.row)
+}
+
+/// The way of an arrow among these, where one is laid out for it.
+pub(crate) fn way_of(
+    arrows: &[Arrow],
+    ways: &'static [Way],
+    arrow: &Arrow,
+) -> Option<&'static Way> {
     for way in ways {
-        if way.to == arrow.to && starts(way, arrow) && goes(arrows, way, arrow.row) {
-            return true;
+        if is_of(arrows, way, arrow) {
+            return Some(way);
+        }
+    }
+    None
+}
+
+/// Whether an arrow is the first of those that go a way.
+pub(crate) fn is_first(arrows: &[Arrow], way: &Way, arrow: &Arrow) -> bool {
+    for other in arrows {
+        if is_of(arrows, way, other) {
+            return other == arrow;
         }
     }
     false

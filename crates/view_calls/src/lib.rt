@@ -106,8 +106,8 @@ fn run_pcap<R: Files, S: Source, K: Sink>(
 }
 
 // Writes a text, and tells why that ended.
-fn write_text<K: Sink>(text: &str, out: &mut K) -> Cause {
-    match write_all(out, text.as_bytes()) {
+fn write_text<K: Sink>(text: &[u8], out: &mut K) -> Cause {
+    match write_all(out, text) {
         Ok(()) => Cause::Done,
         Err(_) => Cause::WriteFault,
     }
@@ -119,13 +119,13 @@ fn answer<K: Sink>(alloc: Global, question: Question, out: &mut K) -> Result<Cau
         Question::Help => help_text(alloc)?,
         Question::Version => version_text(alloc)?,
     };
-    Ok(write_text(text.as_str(), out))
+    Ok(write_text(text.as_bytes(), out))
 }
 
 // Draws the state model of this name, which is the second word, and tells why that ended.
 fn draw_states<K: Sink>(alloc: Global, name: &str, out: &mut K) -> Result<Cause, AllocError> {
     match chart_named(name) {
-        Some(chart) => Ok(write_text(draw_chart(alloc, chart)?.as_str(), out)),
+        Some(chart) => Ok(write_text(draw_chart(alloc, chart)?.as_slice(), out)),
         None => Ok(Cause::Words(1)),
     }
 }

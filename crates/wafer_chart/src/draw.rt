@@ -312,7 +312,7 @@ fn title_of(alloc: Global, story: &Story) -> Result<String, AllocError> {
 }
 
 /// The picture of a story as SVG text. `AllocError` where there is no memory.
-pub fn draw_story(alloc: Global, story: &Story) -> Result<String, AllocError> {
+pub fn draw_story(alloc: Global, story: &Story) -> Result<Vec<u8>, AllocError> {
     let bottom = HEAD + rows_height(story);
     let title = title_of(alloc, story)?;
     let mut picture = Picture::new(alloc, PAGE, bottom + FOOT, title.as_str())?;

@@ -2,7 +2,7 @@
 -- tool's profile, tables 13 to 16, and direct rows). They are listed in order, each where it starts at the state then reached; a
 -- row that fires for an object that one of them creates is no input's, and isn't listed. Each word is named by what happens, and
 -- passes the states of the word that says what that does.
-use Rattle.std.specs.Prelude.{◌≡◌, ◌⊎◌, ℕ, ◌+◌, ◌*◌, ◌==◌, nat_le, Bool, true, false, not, ◌&&◌, if◌then◌else◌, List, [], ◌∷◌, ◌++◌, Option, Some, None}
+use Rattle.std.specs.Prelude.{◌≡◌, ◌⊎◌, ℕ, ◌+◌, ◌==◌, nat_le, Bool, true, false, not, ◌&&◌, if◌then◌else◌, List, [], ◌∷◌, ◌++◌, Option, Some, None}
 use Rattle.std.specs.List.{list_any}
 use Rattle.gem_tables.specs.Table.{is_one_of}
 use Rattle.gem_tables.specs.declared.firing.Firing.{Firing}
@@ -30,7 +30,7 @@ use Rattle.tool_jobs.specs.Jobs.{Jobs}
 use Rattle.floor_model.specs.Floor.{ToolFloor}
 use Rattle.floor_model.specs.Signals.{done_rows, closing_rows}
 use Rattle.place_laws.specs.Picture.{picture}
-use Rattle.owed_laws.specs.Owed.{number_of}
+use Rattle.owed_laws.specs.Owed.{commands_of}
 use Rattle.queue_laws.specs.Started.{is_left_in}
 use Rattle.queue_laws.specs.Steers.{AreAutomatic, disturbs_control}
 use Rattle.lot_laws.specs.Lot.{counted_of, IsMaterialHere}
@@ -199,7 +199,7 @@ CompletesByRows g entry entries =
     → IsMaterialHere number f.floor → entries ≡ some ++ rest
     → IsCalmByRows number (counted_of number f.floor) (entry_after g entry) some
     → has_completed (control_of number (after_all (entry_after g entry) some))
-    ≡ nat_le (8 * number_of (counted_of number f.floor) (picture f.floor)) (dones (entry_after g entry) some)
+    ≡ nat_le (commands_of (counted_of number f.floor) (picture f.floor)) (dones (entry_after g entry) some)
 
 -- so it is at each entry of a history
 abbrev pub EachCompletesByRows : State → List Entry → Type 0

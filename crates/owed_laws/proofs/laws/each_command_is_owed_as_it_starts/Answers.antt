@@ -1,5 +1,5 @@
 use Rattle.owed_laws.proofs.Beginning.{begins_undisturbed, begins_inside, begins_owed}
-use Rattle.owed_laws.proofs.laws.eight_dones_are_owed_as_it_starts.Goals as goal
+use Rattle.owed_laws.proofs.laws.each_command_is_owed_as_it_starts.Goals as goal
 
 pub returns-clause-undisturbed : goal.returns-clause-undisturbed
 returns-clause-undisturbed c = λ counted g v u b. begins_undisturbed counted g v b u

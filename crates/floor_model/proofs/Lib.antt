@@ -14,4 +14,5 @@ pub mod Showing
 pub mod Told
 pub mod PlacePicks
 pub mod SlotPicks
+pub mod BestPicks
 pub mod Asked

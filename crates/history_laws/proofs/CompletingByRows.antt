@@ -14,8 +14,8 @@ use Rattle.history_laws.specs.Completes.{input_of, IsCalmRun, done_of, EachCompl
 use Rattle.history_laws.proofs.Past.{IsPast}
 use Rattle.history_laws.proofs.Ordering.{order_first}
 use Rattle.history_laws.proofs.Completing.{Owes, Stands, stands_entry, past_completed, started_stands, order_entry, rest_entry, run-completes}
-use Rattle.calm_laws.specs.Calm.{IsCalmByRows, EachCompletesByRows}
-use Rattle.calm_laws.proofs.Entries.{entry_calm}
+use Rattle.history_laws.specs.Calm.{IsCalmByRows, EachCompletesByRows}
+use Rattle.history_laws.proofs.CalmInputs.{entry_calm}
 
 module _ (number : ℕ) (counted : ℕ → Bool) where
   -- where no row disturbs it, entries are calm

@@ -66,7 +66,7 @@ use Rattle.lot_laws.specs.Lot.{Executes, IsCalmBetween}
 use Rattle.lot_laws.proofs.Going.{processing_same}
 use Rattle.lot_laws.proofs.Orderly.{found_among_all}
 use Rattle.lot_laws.proofs.Processes.{fifteen_is}
-use Rattle.calm_laws.specs.Calm.{is_job_left, disturbs}
+use Rattle.history_laws.specs.Calm.{is_job_left, disturbs}
 use Rattle.lot_laws.proofs.Words.{process_words, control_words}
 
 -- ---- states

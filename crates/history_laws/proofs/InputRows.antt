@@ -31,9 +31,9 @@ use Rattle.gem_model.specs.Shop.{carrier_action, carrier_caack, port_word, port_
 use Rattle.gem_model.specs.Messages.{done, gem_done, shop_done}
 use Rattle.gem_model.proofs.Tests.{either_way}
 use Rattle.gem_model.proofs.FloorRows.{IsOfInput, input_line, input_transfer, input_access, input_reservation, input_binding, input_name, input_map, input_process, input_control, input_module}
-use Rattle.history_laws.proofs.CommonRows.{free_input}
-use Rattle.gem_model.proofs.Listed.{IsFree, are_both, free_gem, free_port, free_jobs}
-use Rattle.calm_laws.proofs.Rows.{is_input}
+use Rattle.history_laws.proofs.CommonRows.{free_input, end_input}
+use Rattle.gem_model.proofs.Listed.{IsFree, IsEnd, are_both, free_gem, free_port, free_jobs}
+use Rattle.history_laws.proofs.CalmRows.{is_input}
 
 -- an input fires it
 abbrev pub IsInput : Firing → Type 0
@@ -65,6 +65,9 @@ all Is input (x ∷ xs) are = (of_input x (input x are.0), all Is input xs are.1
 
 pub free_inputs : (xs : List Firing) → Are IsFree xs → AreInputs xs
 free_inputs xs are = all IsFree free_input xs are
+
+pub end_inputs : (xs : List Firing) → Are IsEnd xs → AreInputs xs
+end_inputs xs are = all IsEnd end_input xs are
 
 -- ---- the equipment
 

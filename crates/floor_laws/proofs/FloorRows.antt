@@ -22,7 +22,7 @@ use Rattle.robot_moves.specs.Modules.{module_at, state_of}
 use Rattle.tool_tasks.specs.declared.recipes.Recipe.{Recipe}
 use Rattle.floor_model.specs.Floor.{ToolFloor, opening}
 use Rattle.floor_model.specs.Views.{planned}
-use Rattle.floor_model.specs.Modules.{move_wants, move_starts, move_ready}
+use Rattle.floor_model.specs.Modules.{move_wants, move_ready}
 use Rattle.floor_model.specs.Substrates.{reaches_verified}
 use Rattle.floor_model.specs.Wants.{accessing_wants}
 use Rattle.floor_model.specs.Machines.{accessing_ready, floor_machines, floor_starts, floor_fired, floor_least}
@@ -35,7 +35,7 @@ use Rattle.floor_laws.specs.Rows.{is_common}
 use Rattle.floor_laws.proofs.ShopTables.{shop_row_sound}
 use Rattle.floor_laws.proofs.RegVerified.{slot_sound}
 use Rattle.floor_laws.proofs.EndRows.{transport_sound, processing_sound, processing_ready_sound}
-use Rattle.floor_laws.proofs.EndAnswers.{SoundOrBut, module_row_sound}
+use Rattle.floor_laws.proofs.EndAnswers.{module_row_sound}
 use Rattle.floor_laws.proofs.JobProcess.{process_sound}
 use Rattle.floor_laws.proofs.JobCreated.{control_sound}
 use Rattle.floor_laws.proofs.IssueSound.{issue_sound}
@@ -64,11 +64,6 @@ module _ (f : ToolFloor) (sound : Sound f) where
       )
       one starts
 
-  -- row 10 of table 16: a module that is Down has nothing open
-  comes_up : (m : ℕ) → floor_starts (firing 16 m 10) f ≡ true → SoundOrBut f m (floor_fired (firing 16 m 10) f) → Sound (floor_fired (firing 16 m 10) f)
-  comes_up m starts (inl all) = all
-  comes_up m starts (inr w) = not_itself (sym (ap (move_starts 10 (planned m f)) w.1.at) ∙ starts)
-
   -- rows 1 to 4 and 10 of table 16
   moves : (m row : ℕ) → floor_starts (firing 16 m row) f ≡ true → is_one_of (1 ∷ 2 ∷ 3 ∷ 4 ∷ 10 ∷ []) row ≡ true → Sound (floor_fired (firing 16 m row) f)
   moves m row starts one =
@@ -76,7 +71,7 @@ module _ (f : ToolFloor) (sound : Sound f) where
         (λ st. issue_sound f m 1 refl st sound),
         (
           (λ st. issue_sound f m 2 refl st sound),
-          ((λ st. issue_sound f m 3 refl st sound), ((λ st. issue_sound f m 4 refl st sound), ((λ st. comes_up m st (module_row_sound f m 10 st refl sound)), tt))),
+          ((λ st. issue_sound f m 3 refl st sound), ((λ st. issue_sound f m 4 refl st sound), ((λ st. module_row_sound f m 10 st refl sound), tt))),
         ),
       )
       one starts

@@ -1,5 +1,5 @@
 -- Done of the open command of a module takes one off what is owed, with all its rows, where no row is ready before it.
-use Rattle.std.proofs.Common.{◌≡◌, ℕ, Bool, true, false, if◌then◌else◌, ◌&&◌, ◌++◌, List, [], ◌∷◌, Option, Some, None, refl, sym, ◌∙◌, ap, subst}
+use Rattle.std.proofs.Common.{◌≡◌, ℕ, Bool, true, false, ◌&&◌, ◌++◌, List, [], ◌∷◌, Option, Some, None, refl, sym, ◌∙◌, ap, subst}
 use Rattle.std.specs.List.{AllByRecursion, list_any}
 use Rattle.std.proofs.lemmas.Bool.{true≢false}
 use Rattle.gem_tables.specs.Table.{firing, is_one_of, is_among, first_itself}
@@ -24,11 +24,12 @@ use Rattle.floor_model.specs.Wants.{substrate_wants}
 use Rattle.floor_model.specs.Machines.{substrate_starts, substrate_ready, floor_machines, floor_starts, floor_fired, floor_least}
 use Rattle.floor_moves.specs.Floor as law
 use Rattle.floor_moves.specs.Floor.{process, named}
+use Rattle.floor_moves.specs.Valid.{IsUnnamed}
 use Rattle.place_laws.specs.Picture.{picture, of_one, number_or_none, task_of}
-use Rattle.place_laws.specs.Sound.{Sound, SoundBut}
+use Rattle.place_laws.specs.Sound.{Sound}
 use Rattle.place_laws.proofs.Holding.{one_found, found_among}
 use Rattle.floor_laws.specs.Rows.{one_listed, listed}
-use Rattle.floor_laws.proofs.EndAnswers.{process_but}
+use Rattle.floor_laws.proofs.EndAnswers.{process_unnamed, module_row_sound}
 use Rattle.floor_laws.proofs.EndOpen.{command_of, busy_at, busy_processes}
 use Rattle.floor_laws.proofs.FloorInputs.{listed_starts, done_starts, done_one}
 use Rattle.floor_laws.proofs.JobSight.{none_some}
@@ -121,16 +122,17 @@ module _ (number : ℕ) (counted : ℕ → Bool) (f : ToolFloor) (sound : Sound 
         (done_moved-falls number counted f sound e m c fetched here t q other)
 
     -- the two rows of a Process
-    processed : (sub recipe : List ℕ) → c.task ≡ task.Process sub recipe → (n : ℕ) → number_named sub f.places ≡ Some n → SoundBut n (floor_fired (firing 16 m 7) f)
+    processed : (sub recipe : List ℕ) → c.task ≡ task.Process sub recipe → (n : ℕ) → number_named sub f.places ≡ Some n → IsUnnamed n (picture (floor_fired (firing 16 m 7) f))
         → TakesOneOff number counted f (listed (firing 16 m 7 ∷ firing 13 n (done_processing n f) ∷ []) f)
-    processed sub recipe q n names but =
+    processed sub recipe q n names unnamed =
         let p = is_processed f sound rest m c fetched here sub recipe q n names in
         let row = done_processing n f in
         let one = done_one n f in
         let closed = closed-executes number counted f sound e m c fetched here in
         let starts = running_starts (floor_fired (firing 16 m 7) f) n row p.one p.known p.running one in
-        let falls = processed-falls number counted (floor_fired (firing 16 m 7) f) closed.0 n but row p.chamber one starts p.at p.member in
-        subst (λ (g : ToolFloor). TakesOneOff number counted f (one_listed (firing 13 n row) g)) (sym (listed_starts (firing 16 m 7) f (done_starts m f c fetched here (task.Process sub recipe) q)))
+        let closes = done_starts m f c fetched here (task.Process sub recipe) q in
+        let falls = processed-falls number counted (floor_fired (firing 16 m 7) f) closed.0 n (module_row_sound f m 7 closes refl sound) unnamed row p.chamber one starts p.at p.member in
+        subst (λ (g : ToolFloor). TakesOneOff number counted f (one_listed (firing 13 n row) g)) (sym (listed_starts (firing 16 m 7) f closes))
         (subst (λ (g : ToolFloor). TakesOneOff number counted f g) (sym (listed_starts (firing 13 n row) (floor_fired (firing 16 m 7) f) starts)) (falls.0, falls.1 ∙ closed.1))
 
     -- by the task
@@ -139,7 +141,7 @@ module _ (number : ℕ) (counted : ℕ → Bool) (f : ToolFloor) (sound : Sound 
     by_task (task.Place sub to) q = alone (task.Place sub to) q (λ s r u. cc)
     by_task (task.Align sub) q = alone (task.Align sub) q (λ s r u. cc)
     by_task (task.Process sub recipe) q =
-        let w = process_but f sound m 7 c fetched here law.idle idle_not_busy refl sub recipe q in
+        let w = process_unnamed f sound m 7 c fetched here law.idle idle_not_busy refl sub recipe q in
         subst (λ (o : Option ℕ). TakesOneOff number counted f (listed (firing 16 m 7 ∷ at_done o f) f)) (sym w.1) (processed sub recipe q w.0 w.1 w.2)
 
   -- Done of the open command of a module

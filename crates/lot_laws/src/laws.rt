@@ -18,6 +18,7 @@ ghost use Rattle.shop_floor.specs.Requests.{came, carrier_code, carrier_written}
 ghost use Rattle.shop_floor.specs.Rows.{owner};
 ghost use Rattle.floor_model.specs.Signals.{done_row, done_rows, closing_rows, lost_rows};
 ghost use Rattle.floor_moves.specs.Floor.{chamber};
+ghost use Rattle.floor_moves.specs.Valid.{IsUnnamed};
 ghost use Rattle.gem_tables.specs.Table.{firing, is_one_of};
 ghost use Rattle.process_job.specs.Jobs.{job_numbered as process_numbered};
 ghost use Rattle.process_job.specs.Creating.{create_fault};
@@ -33,7 +34,7 @@ ghost use Rattle.floor_model.specs.Floor.{ToolFloor, opening, with_shop, with_jo
 ghost use Rattle.floor_model.specs.Jobs.{is_first_here, is_any_of_carrier};
 ghost use Rattle.floor_model.specs.Machines.{floor_starts, floor_fired, floor_least};
 ghost use Rattle.place_laws.specs.Picture.{picture};
-ghost use Rattle.place_laws.specs.Sound.{Sound, SoundBut};
+ghost use Rattle.place_laws.specs.Sound.{Sound};
 ghost use Rattle.floor_laws.specs.Rows.{is_common, listed};
 ghost use Rattle.owed_laws.specs.Owed.{owed_to, number_of};
 ghost use Rattle.owed_laws.specs.Undisturbed.{AreUnaligned, Undisturbed};
@@ -111,7 +112,8 @@ pub fn done_of_a_command_takes_one_off()
     ensures closed_as_much { (number : ℕ) (counted : ℕ → Bool) (f : ToolFloor) (m : ℕ) (c : Command) (fetched : Bool) → Sound f
         → Executes number counted f → module_at m f.modules ≡ Some (Busy c fetched)
         → owed_to counted (picture (floor_fired (firing 16 m 7) f)) ≡ owed_to counted (picture f) }
-    ensures processed { (number : ℕ) (counted : ℕ → Bool) (f : ToolFloor) (n row d : ℕ) → SoundBut n f → Executes number counted f
+    ensures processed { (number : ℕ) (counted : ℕ → Bool) (f : ToolFloor) (n row d : ℕ) → Sound f → IsUnnamed n (picture f)
+        → Executes number counted f
         → is_one_of (3 ∷ 4 ∷ []) row ≡ true → floor_starts (firing 13 n row) f ≡ true → (picture f).place_of n ≡ Some (chamber d)
         → (picture f).jobs.is_member n ≡ true → TakesOneOff number counted f (floor_fired (firing 13 n row) f) }
 {}

@@ -43,7 +43,7 @@ module _ (counted : ℕ → Bool) (g : Floor) (v : Valid g) (b : Begins counted 
   begins_inside n kept is = by (g.place_of n) refl
     where
       by : (p : Option Loc) → g.place_of n ≡ p → p ≡ Some (own n g)
-      by None e = absurd (let w = v.work.removed n kept e in let z = unfinished n kept is in cc)
+      by None e = absurd (let w = v.removed n kept e in let z = unfinished n kept is in cc)
       by (Some (slot p k)) e = ap (λ (l : Loc). Some l) (v.places.home n p k e)
       by (Some aligner) e = absurd (let w = inside n in let z = ap is_outside e in cc)
       by (Some arm) e = absurd (let w = inside n in let z = ap is_outside e in cc)
@@ -80,7 +80,7 @@ owed_done g n v kept z = by (g.place_of n) refl (is_finished (g.processing n)) r
   where
     by : (p : Option Loc) → g.place_of n ≡ p → (f : Bool) → is_finished (g.processing n) ≡ f → (a : Bool) → owed_at p f a ≡ 0 → (f && not (is_outside p)) ≡ true
     by None e true q a z = refl
-    by None e false q a z = let f = v.work.removed n kept e in absurd (cc)
+    by None e false q a z = let f = v.removed n kept e in absurd (cc)
     by (Some (slot x k)) e true q a z = refl
     by (Some (slot x k)) e false q a z = absurd (omega (arith, z))
     by (Some aligner) e true q true z = absurd (omega (arith, z))

@@ -8,7 +8,7 @@ ghost use Rattle.floor_moves.specs.Carriers.{created, arrived, verified, registe
 ghost use Rattle.floor_moves.specs.Valid.{Valid};
 ghost use Rattle.floor_moves.specs.Agree.{Agree};
 ghost use Rattle.owed_laws.specs.Owed.{owed_to, number_of};
-ghost use Rattle.owed_laws.specs.Undisturbed.{AreUnaligned, JobsStand, Undisturbed, AreInProcess, Begins};
+ghost use Rattle.owed_laws.specs.Undisturbed.{AreUnaligned, JobsStand, Undisturbed, Begins};
 
 /// As a control job starts nothing is disturbed, each counted substrate is in its slot, and eight Dones are owed for each.
 pub fn eight_dones_are_owed_as_it_starts()
@@ -70,5 +70,4 @@ pub fn what_is_owed_is_said_of_what_is_kept()
     ensures number { (counted : ℕ → Bool) (g h : Floor) → Agree g h → number_of counted h ≡ number_of counted g }
     ensures undisturbed { (counted : ℕ → Bool) (g h : Floor) → Agree g h → Valid g → Undisturbed counted g → Undisturbed counted h }
     ensures unaligned { (g h : Floor) → Agree g h → Valid g → AreUnaligned g → AreUnaligned h }
-    ensures in_process { (g h : Floor) → Agree g h → Valid g → AreInProcess g → AreInProcess h }
 {}

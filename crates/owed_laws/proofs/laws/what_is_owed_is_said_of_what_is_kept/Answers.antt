@@ -1,4 +1,4 @@
-use Rattle.owed_laws.proofs.Agreeing.{agree-owed, agree-number, agree-unaligned, agree-in_process, agree-undisturbed}
+use Rattle.owed_laws.proofs.Agreeing.{agree-owed, agree-number, agree-unaligned, agree-undisturbed}
 use Rattle.owed_laws.proofs.laws.what_is_owed_is_said_of_what_is_kept.Goals as goal
 
 pub returns-clause-owed : goal.returns-clause-owed
@@ -12,6 +12,3 @@ returns-clause-undisturbed c = λ counted g h a v u. agree-undisturbed g h a cou
 
 pub returns-clause-unaligned : goal.returns-clause-unaligned
 returns-clause-unaligned c = agree-unaligned
-
-pub returns-clause-in_process : goal.returns-clause-in_process
-returns-clause-in_process c = agree-in_process

@@ -1,5 +1,5 @@
--- Behind a Process that ended: the row of its substrate, and where it is none; and a command that is fetched, which stays open.
-use Rattle.std.proofs.Common.{◌≡◌, ℕ, ◌==◌, Bool, true, false, ◌&&◌, [], ◌∷◌, Option, Some, None, option_map, refl, sym, ◌∙◌, ap, subst, arith}
+-- Behind a Process that ended: the row of its substrate; and a command that is fetched, which stays open.
+use Rattle.std.proofs.Common.{◌≡◌, ℕ, ◌==◌, Bool, true, false, [], ◌∷◌, Option, Some, None, option_map, refl, sym, ◌∙◌, ap, subst}
 use Rattle.std.proofs.lemmas.Bool.{and_parts}
 use Rattle.std.proofs.lemmas.Bool.Decides.{Decides-eqb}
 use Rattle.gem_tables.specs.Table.{firing, after, is_one_of, is_among}
@@ -14,19 +14,18 @@ use Rattle.floor_model.specs.declared.tracked.Substrate.{Substrate}
 use Rattle.floor_model.specs.Floor.{ToolFloor, fetched, substrate_numbered}
 use Rattle.floor_model.specs.Machines.{substrate_starts, substrate_moves, with_moved, floor_starts, floor_fired}
 use Rattle.floor_moves.specs.Floor.{is_finished}
+use Rattle.floor_moves.specs.Valid.{IsUnnamed}
 use Rattle.floor_moves.specs.Agree.{Agree}
 use Rattle.floor_moves.proofs.Agreeing.{agree-keeps}
-use Rattle.floor_moves.proofs.Done.{but_finished, but_left_out}
-use Rattle.place_laws.specs.Picture.{picture, module_of, of_one}
-use Rattle.place_laws.specs.Sound.{Sound, SoundBut}
+use Rattle.floor_moves.proofs.Done.{finished-keeps}
+use Rattle.place_laws.specs.Picture.{picture, module_of}
+use Rattle.place_laws.specs.Sound.{Sound}
 use Rattle.picture_laws.proofs.JobViews.{alike_same}
-use Rattle.picture_laws.proofs.Columns.{unknown_none}
 use Rattle.picture_laws.proofs.Issuing.{changed_there, changed_else}
 use Rattle.picture_laws.proofs.Rows.{processing_agrees}
 use Rattle.floor_laws.proofs.EndBase.{changed_base}
 use Rattle.floor_laws.proofs.EndPlaces.{module_base}
 use Rattle.floor_laws.proofs.EndRows.{moves_leaves}
-use Rattle.place_laws.proofs.Holding.{IsOne}
 
 -- ---- rows 3 and 4 of table 13
 
@@ -35,29 +34,18 @@ pub is_running : (p : Processing) → is_among processing_number (processing.InP
 is_running processing.InProcess e = refl
 is_running _ e = absurd (cc)
 
--- and the other way
-running : (p : Processing) → processing_number p ≡ 1 → p ≡ processing.InProcess
-running processing.NeedsProcessing e = let z : IsOne 0 = e in absurd (omega (arith, z))
-running processing.InProcess e = refl
-running processing.Processed e = let z : IsOne 2 = e in absurd (omega (arith, z))
-running processing.Aborted e = let z : IsOne 3 = e in absurd (omega (arith, z))
-running processing.Stopped e = let z : IsOne 4 = e in absurd (omega (arith, z))
-running processing.Rejected e = let z : IsOne 5 = e in absurd (omega (arith, z))
-running processing.Lost e = let z : IsOne 6 = e in absurd (omega (arith, z))
-running processing.Skipped e = let z : IsOne 7 = e in absurd (omega (arith, z))
-
--- a row that finishes it
-finish : (f : ToolFloor) (n row : ℕ) (s : Substrate) → substrate_numbered n f.substrates ≡ Some s → is_finished (processing_number (after processing_number processing_table row s.states.processing)) ≡ true → SoundBut n f → Sound (with_moved 13 row n f)
-finish f n row s known finished but = record {
-  base = changed_base n (substrate_moves 13 row) (moves_leaves 13 row) f but.base;
-  ports = but.ports;
-  unloading = but.unloading;
-  valid = agree-keeps _ _ (processing_agrees f n row s known) (but_finished (picture f) n _ finished but.valid);
+-- a row that finishes one that no open command names
+finish : (f : ToolFloor) (n row : ℕ) (s : Substrate) → substrate_numbered n f.substrates ≡ Some s → is_finished (processing_number (after processing_number processing_table row s.states.processing)) ≡ true → IsUnnamed n (picture f) → Sound f → Sound (with_moved 13 row n f)
+finish f n row s known finished unnamed sound = record {
+  base = changed_base n (substrate_moves 13 row) (moves_leaves 13 row) f sound.base;
+  ports = sound.ports;
+  unloading = sound.unloading;
+  valid = agree-keeps _ _ (processing_agrees f n row s known) (finished-keeps (picture f) n _ finished unnamed sound.valid);
 }
 
--- where the row starts
-pub but_sound : (f : ToolFloor) (n row : ℕ) → is_one_of (3 ∷ 4 ∷ []) row ≡ true → floor_starts (firing 13 n row) f ≡ true → SoundBut n f → Sound (floor_fired (firing 13 n row) f)
-but_sound f n row one starts but =
+-- so do these, where they start
+pub finish_sound : (f : ToolFloor) (n row : ℕ) → is_one_of (3 ∷ 4 ∷ []) row ≡ true → floor_starts (firing 13 n row) f ≡ true → IsUnnamed n (picture f) → Sound f → Sound (floor_fired (firing 13 n row) f)
+finish_sound f n row one starts unnamed sound =
     one_of_cases (λ (r : ℕ). floor_starts (firing 13 n r) f ≡ true → Sound (floor_fired (firing 13 n r) f)) (3 ∷ 4 ∷ []) row
     ((λ s. row_3 (substrate_numbered n f.substrates) refl s), ((λ s. row_4 (substrate_numbered n f.substrates) refl s), tt)) one starts
   where
@@ -65,31 +53,13 @@ but_sound f n row one starts but =
     row_3 None q e = absurd (cc)
     row_3 (Some s) q e =
         let w = and_parts (is_among processing_number (processing.InProcess ∷ []) s.states.processing) true e in
-        finish f n 3 s q (ap (λ (p : Processing). is_finished (processing_number (after processing_number processing_table 3 p))) (is_running s.states.processing w.0)) but
+        finish f n 3 s q (ap (λ (p : Processing). is_finished (processing_number (after processing_number processing_table 3 p))) (is_running s.states.processing w.0)) unnamed sound
 
     row_4 : (o : Option Substrate) → substrate_numbered n f.substrates ≡ o → substrate_starts processing_number processing_table (λ s. s.processing) 4 o f ≡ true → Sound (with_moved 13 4 n f)
     row_4 None q e = absurd (cc)
     row_4 (Some s) q e =
         let w = and_parts (is_among processing_number (processing.InProcess ∷ []) s.states.processing) true e in
-        finish f n 4 s q (ap (λ (p : Processing). is_finished (processing_number (after processing_number processing_table 4 p))) (is_running s.states.processing w.0)) but
-
--- where it doesn't, the substrate isn't IN PROCESS
-pub but_left_sound : (f : ToolFloor) (n row : ℕ) → is_one_of (3 ∷ 4 ∷ []) row ≡ true → floor_starts (firing 13 n row) f ≡ false → SoundBut n f → Sound f
-but_left_sound f n row one starts but = record { base = but.base; ports = but.ports; unloading = but.unloading; valid = but_left_out (picture f) n other but.valid } where
-  -- it would start
-  at : (s : Substrate) → substrate_numbered n f.substrates ≡ Some s → s.states.processing ≡ processing.InProcess → (r : ℕ) → is_one_of (3 ∷ 4 ∷ []) r ≡ true → floor_starts (firing 13 n r) f ≡ true
-  at s q is r e =
-      one_of_cases (λ (r : ℕ). floor_starts (firing 13 n r) f ≡ true) (3 ∷ 4 ∷ []) r (
-        ap (λ (o : Option Substrate). substrate_starts processing_number processing_table (λ s. s.processing) 3 o f) q ∙ ap (λ (p : Processing). (is_among processing_number (processing.InProcess ∷ []) p) && true) is,
-        (ap (λ (o : Option Substrate). substrate_starts processing_number processing_table (λ s. s.processing) 4 o f) q ∙ ap (λ (p : Processing). (is_among processing_number (processing.InProcess ∷ []) p) && true) is, tt),
-      ) e
-
-  by : (o : Option Substrate) → substrate_numbered n f.substrates ≡ o → of_one 0 (λ (s : Substrate). processing_number s.states.processing) o ≡ 1 → ⊥
-  by None q e = let z : IsOne 0 = e in omega (arith, z)
-  by (Some s) q e = let t = at s q (running s.states.processing e) row one in let clash : true ≡ false = sym t ∙ starts in cc
-
-  other : (picture f).processing n ≡ 1 → ⊥
-  other e = by (substrate_numbered n f.substrates) refl e
+        finish f n 4 s q (ap (λ (p : Processing). is_finished (processing_number (after processing_number processing_table 4 p))) (is_running s.states.processing w.0)) unnamed sound
 
 -- ---- a command is fetched
 
@@ -121,7 +91,6 @@ module _ (number : ℕ) (f : ToolFloor) where
     slot_of = λ k _. refl;
     place_of = λ k. refl;
     processing = λ k _. refl;
-    unknown = λ k e one. let z : IsOne 0 = sym (ap (of_one 0 (λ (s : Substrate). processing_number s.states.processing)) (unknown_none k f.substrates e)) ∙ one in omega (arith, z);
     is_aligned = λ k _. refl;
     carriers = refl;
     present_at = λ c. refl;

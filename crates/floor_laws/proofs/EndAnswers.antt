@@ -17,7 +17,7 @@ use Rattle.floor_model.specs.Machines.{floor_starts, floor_fired}
 use Rattle.floor_model.specs.Modules.{is_transfer, is_align, module_behind, move_starts, number_named}
 use Rattle.floor_model.specs.Naming.{named_by}
 use Rattle.floor_model.specs.Views.{planned}
-use Rattle.floor_moves.specs.Floor.{process, Command, Module, busy, idle, down}
+use Rattle.floor_moves.specs.Floor.{process, Command, Module, busy, down}
 use Rattle.floor_moves.specs.Valid.{IsUnnamed}
 use Rattle.floor_moves.proofs.Agreeing.{agree-keeps, busy_back}
 use Rattle.floor_moves.proofs.Issuing.{turned-keeps}
@@ -65,7 +65,7 @@ module_row_sound f m row starts one sound =
       (λ s. row_5 (planned m f) (module_at m f.modules) refl s),
       (
         (λ s. row_6 (planned m f) (module_at m f.modules) refl s),
-        ((λ s. row_7 (planned m f) (module_at m f.modules) refl s), ((λ s. row_8 (planned m f) (module_at m f.modules) refl s), ((λ s. row_9 (planned m f) (module_at m f.modules) refl s), ((λ s. row_10 (planned m f) (module_at m f.modules) refl s), tt)))),
+        ((λ s. closes 7 idle_7 (module_at m f.modules) refl s), ((λ s. closes 8 down_8 (module_at m f.modules) refl s), ((λ s. closes 9 down_9 (module_at m f.modules) refl s), ((λ s. closes 10 idle_10 (module_at m f.modules) refl s), tt)))),
       ),
     )
     one starts
@@ -94,30 +94,28 @@ module_row_sound f m row starts one sound =
       aligns (task.Align sub) q w = align_sound f sound m c fetched at sub q
       aligns (task.Process sub recipe) q w = absurd (cc)
 
+    -- rows 7 to 10: what the module had open is closed, and it isn't Busy then
+    closes : (row : ℕ) → ((x : ToolModule) → move_starts row (planned m f) (Some x) ≡ true → (d : Command) → module_of (Some (module_behind row x)) f.places ≡ busy d → ⊥) → (o : Option ToolModule) → module_at m f.modules ≡ o → move_starts row (planned m f) o ≡ true
+        → Sound (with_module m (module_behind row) f)
+    closes row other None at e = absurd (cc)
+    closes row other (Some x) at e = turned_sound f sound m row x at (module_of (Some (module_behind row x)) f.places) (other x e) refl
+
     -- Done of Process
-    row_7 : (plan : Option Move) (o : Option ToolModule) → module_at m f.modules ≡ o → move_starts 7 plan o ≡ true → Sound (floor_fired (firing 16 m 7) f)
-    row_7 plan None at e = absurd (cc)
-    row_7 plan (Some Idle) at e = absurd (cc)
-    row_7 plan (Some Down) at e = absurd (cc)
-    row_7 plan (Some (Busy c fetched)) at e = turned_sound f sound m 7 (Busy c fetched) at idle idle_not_busy refl
+    idle_7 : (x : ToolModule) → move_starts 7 (planned m f) (Some x) ≡ true → (d : Command) → module_of (Some (module_behind 7 x)) f.places ≡ busy d → ⊥
+    idle_7 (Busy c fetched) e d = idle_not_busy d
+    idle_7 _ e d = absurd (cc)
 
     -- Failed
-    row_8 : (plan : Option Move) (o : Option ToolModule) → module_at m f.modules ≡ o → move_starts 8 plan o ≡ true → Sound (floor_fired (firing 16 m 8) f)
-    row_8 plan None at e = absurd (cc)
-    row_8 plan (Some Idle) at e = absurd (cc)
-    row_8 plan (Some Down) at e = absurd (cc)
-    row_8 plan (Some (Busy c fetched)) at e = turned_sound f sound m 8 (Busy c fetched) at down down_not refl
+    down_8 : (x : ToolModule) → move_starts 8 (planned m f) (Some x) ≡ true → (d : Command) → module_of (Some (module_behind 8 x)) f.places ≡ busy d → ⊥
+    down_8 (Busy c fetched) e d = down_not d
+    down_8 _ e d = absurd (cc)
 
     -- Down
-    row_9 : (plan : Option Move) (o : Option ToolModule) → module_at m f.modules ≡ o → move_starts 9 plan o ≡ true → Sound (floor_fired (firing 16 m 9) f)
-    row_9 plan None at e = absurd (cc)
-    row_9 plan (Some Idle) at e = turned_sound f sound m 9 Idle at down down_not refl
-    row_9 plan (Some Down) at e = absurd (cc)
-    row_9 plan (Some (Busy c fetched)) at e = turned_sound f sound m 9 (Busy c fetched) at down down_not refl
+    down_9 : (x : ToolModule) → move_starts 9 (planned m f) (Some x) ≡ true → (d : Command) → module_of (Some (module_behind 9 x)) f.places ≡ busy d → ⊥
+    down_9 Down e d = absurd (cc)
+    down_9 _ e d = down_not d
 
     -- `up`
-    row_10 : (plan : Option Move) (o : Option ToolModule) → module_at m f.modules ≡ o → move_starts 10 plan o ≡ true → Sound (floor_fired (firing 16 m 10) f)
-    row_10 plan None at e = absurd (cc)
-    row_10 plan (Some Idle) at e = absurd (cc)
-    row_10 plan (Some (Busy c fetched)) at e = absurd (cc)
-    row_10 plan (Some Down) at e = turned_sound f sound m 10 Down at idle idle_not_busy refl
+    idle_10 : (x : ToolModule) → move_starts 10 (planned m f) (Some x) ≡ true → (d : Command) → module_of (Some (module_behind 10 x)) f.places ≡ busy d → ⊥
+    idle_10 Down e d = idle_not_busy d
+    idle_10 _ e d = absurd (cc)

@@ -47,19 +47,18 @@ finish f n row s known finished unnamed sound = record {
 pub finish_sound : (f : ToolFloor) (n row : ℕ) → is_one_of (3 ∷ 4 ∷ []) row ≡ true → floor_starts (firing 13 n row) f ≡ true → IsUnnamed n (picture f) → Sound f → Sound (floor_fired (firing 13 n row) f)
 finish_sound f n row one starts unnamed sound =
     one_of_cases (λ (r : ℕ). floor_starts (firing 13 n r) f ≡ true → Sound (floor_fired (firing 13 n r) f)) (3 ∷ 4 ∷ []) row
-    ((λ s. row_3 (substrate_numbered n f.substrates) refl s), ((λ s. row_4 (substrate_numbered n f.substrates) refl s), tt)) one starts
+    ((λ s. at 3 three (substrate_numbered n f.substrates) refl s), ((λ s. at 4 four (substrate_numbered n f.substrates) refl s), tt)) one starts
   where
-    row_3 : (o : Option Substrate) → substrate_numbered n f.substrates ≡ o → substrate_starts processing_number processing_table (λ s. s.processing) 3 o f ≡ true → Sound (with_moved 13 3 n f)
-    row_3 None q e = absurd (cc)
-    row_3 (Some s) q e =
-        let w = and_parts (is_among processing_number (processing.InProcess ∷ []) s.states.processing) true e in
-        finish f n 3 s q (ap (λ (p : Processing). is_finished (processing_number (after processing_number processing_table 3 p))) (is_running s.states.processing w.0)) unnamed sound
+    at : (r : ℕ) → ((s : Substrate) → substrate_starts processing_number processing_table (λ s. s.processing) r (Some s) f ≡ true → is_finished (processing_number (after processing_number processing_table r s.states.processing)) ≡ true)
+        → (o : Option Substrate) → substrate_numbered n f.substrates ≡ o → substrate_starts processing_number processing_table (λ s. s.processing) r o f ≡ true → Sound (with_moved 13 r n f)
+    at r ends None q e = absurd (cc)
+    at r ends (Some s) q e = finish f n r s q (ends s e) unnamed sound
 
-    row_4 : (o : Option Substrate) → substrate_numbered n f.substrates ≡ o → substrate_starts processing_number processing_table (λ s. s.processing) 4 o f ≡ true → Sound (with_moved 13 4 n f)
-    row_4 None q e = absurd (cc)
-    row_4 (Some s) q e =
-        let w = and_parts (is_among processing_number (processing.InProcess ∷ []) s.states.processing) true e in
-        finish f n 4 s q (ap (λ (p : Processing). is_finished (processing_number (after processing_number processing_table 4 p))) (is_running s.states.processing w.0)) unnamed sound
+    three : (s : Substrate) → substrate_starts processing_number processing_table (λ s. s.processing) 3 (Some s) f ≡ true → is_finished (processing_number (after processing_number processing_table 3 s.states.processing)) ≡ true
+    three s e = ap (λ (p : Processing). is_finished (processing_number (after processing_number processing_table 3 p))) (is_running s.states.processing (and_parts (is_among processing_number (processing.InProcess ∷ []) s.states.processing) true e).0)
+
+    four : (s : Substrate) → substrate_starts processing_number processing_table (λ s. s.processing) 4 (Some s) f ≡ true → is_finished (processing_number (after processing_number processing_table 4 s.states.processing)) ≡ true
+    four s e = ap (λ (p : Processing). is_finished (processing_number (after processing_number processing_table 4 p))) (is_running s.states.processing (and_parts (is_among processing_number (processing.InProcess ∷ []) s.states.processing) true e).0)
 
 -- ---- a command is fetched
 

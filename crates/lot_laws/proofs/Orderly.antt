@@ -487,19 +487,14 @@ module _ (m : ℕ) (f : ToolFloor) (sound : Sound f) (o : OrderedAt f) (c : Tool
       (ended-ordered 7 (done_processing w.0 f) w.0 sub recipe q w.1 (done_one w.0 f)))
 
   -- those of Failed and of Down
-  closed_task-ordered : (row : ℕ) → floor_starts (firing 16 m row) f ≡ true → floor_fired (firing 16 m row) f ≡ with_module m (module_behind row) f → (t : ToolTask) → c.task ≡ t → OrderedAt (listed (at_module row m ++ processed_rows 4 t f) f)
-  closed_task-ordered row starts fires t q = by t q where
-    closes : one_listed (firing 16 m row) f ≡ with_module m (module_behind row) f
-    closes = listed_starts (firing 16 m row) f starts ∙ fires
-
-    by : (x : ToolTask) → c.task ≡ x → OrderedAt (listed (at_module row m ++ processed_rows 4 x f) f)
-    by (task.Pick sub from) u = subst OrderedAt (sym closes) (closed-ordered row (λ x. ap (task_processes x) u))
-    by (task.Place sub to) u = subst OrderedAt (sym closes) (closed-ordered row (λ x. ap (task_processes x) u))
-    by (task.Align sub) u = subst OrderedAt (sym closes) (closed-ordered row (λ x. ap (task_processes x) u))
-    by (task.Process sub recipe) u =
-        let w = process_unnamed f sound m 7 c fetched here idle idle_not_busy refl sub recipe u in
-        subst (λ (x : Option ℕ). OrderedAt (listed (firing 16 m row ∷ at_processed 4 x) f)) (sym w.1)
-        (subst (λ (g : ToolFloor). OrderedAt (one_listed (firing 13 w.0 4) g)) (sym closes) (ended-ordered row 4 w.0 sub recipe u w.1 refl))
+  closed_task-ordered : (row : ℕ) → one_listed (firing 16 m row) f ≡ with_module m (module_behind row) f → (t : ToolTask) → c.task ≡ t → OrderedAt (listed (at_module row m ++ processed_rows 4 t f) f)
+  closed_task-ordered row closes (task.Pick sub from) q = subst OrderedAt (sym closes) (closed-ordered row (λ x. ap (task_processes x) q))
+  closed_task-ordered row closes (task.Place sub to) q = subst OrderedAt (sym closes) (closed-ordered row (λ x. ap (task_processes x) q))
+  closed_task-ordered row closes (task.Align sub) q = subst OrderedAt (sym closes) (closed-ordered row (λ x. ap (task_processes x) q))
+  closed_task-ordered row closes (task.Process sub recipe) q =
+      let w = process_unnamed f sound m 7 c fetched here idle idle_not_busy refl sub recipe q in
+      subst (λ (x : Option ℕ). OrderedAt (listed (firing 16 m row ∷ at_processed 4 x) f)) (sym w.1)
+      (subst (λ (g : ToolFloor). OrderedAt (one_listed (firing 13 w.0 4) g)) (sym closes) (ended-ordered row 4 w.0 sub recipe q w.1 refl))
 
 -- Done of the open command of a module
 pub done-in_order : (m command : ℕ) (f : ToolFloor) → is_open command (module_at m f.modules) ≡ true → InOrder f → InOrder (listed (done_rows m f) f)
@@ -518,7 +513,7 @@ failed-in_order m command f open_there o = in_order (listed (closing_rows 8 m f)
   of None here is = absurd (cc)
   of (Some Idle) here is = absurd (cc)
   of (Some Down) here is = absurd (cc)
-  of (Some (Busy c fetched)) here is = closed_task-ordered m f o.sound (to_ordered f o) c fetched here 8 (failed_starts m f c fetched here) refl c.task refl
+  of (Some (Busy c fetched)) here is = closed_task-ordered m f o.sound (to_ordered f o) c fetched here 8 (listed_starts (firing 16 m 8) f (failed_starts m f c fetched here)) c.task refl
 
 pub down-in_order : (m : ℕ) (f : ToolFloor) → is_up (module_at m f.modules) ≡ true → InOrder f → InOrder (listed (closing_rows 9 m f) f)
 down-in_order m f up o = in_order (listed (closing_rows 9 m f) f) (down_sound m f up o.sound) (of (module_at m f.modules) refl up) where
@@ -530,7 +525,7 @@ down-in_order m f up o = in_order (listed (closing_rows 9 m f) f) (down_sound m 
   of None here is = absurd (cc)
   of (Some Idle) here is = alone here
   of (Some Down) here is = absurd (cc)
-  of (Some (Busy c fetched)) here is = closed_task-ordered m f o.sound (to_ordered f o) c fetched here 9 (down_starts m f c fetched here) refl c.task refl
+  of (Some (Busy c fetched)) here is = closed_task-ordered m f o.sound (to_ordered f o) c fetched here 9 (listed_starts (firing 16 m 9) f (down_starts m f c fetched here)) c.task refl
 
 -- ---- `lost`
 

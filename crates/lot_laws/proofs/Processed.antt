@@ -41,16 +41,17 @@ any_changed t m change ms on e = let w = any_there t ms e in of w.0 w.1 w.2 w.3 
       any_at t (change_module m change ms) m (change x) (changed_there m change ms ∙ ap (option_map change) here) (on x here is)
   of k x at is false q = any_at t (change_module m change ms) k x (changed_else m k (λ same. true≢false (sym ((Decides-eqb k m).1 same) ∙ q)) change ms ∙ at) is
 
--- what is so of the modules that process something is so of all
-pub modules-processed : (ms ns : List Module) (ss : List Substrate) → ((sub : List ℕ) → list_any (processes sub) ms ≡ true → list_any (processes sub) ns ≡ true) → AreProcessed ms ss → AreProcessed ns ss
-modules-processed ms ns ss on were k = of (substrate_numbered k ss) (were k) where
-  by : (b a c : Bool) → (a ≡ true → c ≡ true) → (b || a) ≡ true → (b || c) ≡ true
-  by true a c on e = refl
-  by false a c on e = on e
+-- a substrate has its Process still, where modules change and that stays open
+has_still : (ms ns : List Module) (o : Option Substrate) → ((s : Substrate) → o ≡ Some s → list_any (processes s.sub) ms ≡ true → list_any (processes s.sub) ns ≡ true) → of_one true (has_process ms) o ≡ true → of_one true (has_process ns) o ≡ true
+has_still ms ns None on e = refl
+has_still ms ns (Some s) on e = by (is_in_process s.states.processing) e where
+  by : (b : Bool) → (not b || list_any (processes s.sub) ms) ≡ true → (not b || list_any (processes s.sub) ns) ≡ true
+  by true e = on s refl e
+  by false e = refl
 
-  of : (o : Option Substrate) → of_one true (has_process ms) o ≡ true → of_one true (has_process ns) o ≡ true
-  of None e = refl
-  of (Some s) e = by (not (is_in_process s.states.processing)) (list_any (processes s.sub) ms) (list_any (processes s.sub) ns) (on s.sub) e
+-- so it is of each, where each open Process stays open
+pub modules-processed : (ms ns : List Module) (ss : List Substrate) → ((sub : List ℕ) → list_any (processes sub) ms ≡ true → list_any (processes sub) ns ≡ true) → AreProcessed ms ss → AreProcessed ns ss
+modules-processed ms ns ss on were k = has_still ms ns (substrate_numbered k ss) (λ s q. on s.sub) (were k)
 
 -- ---- a row of table 13
 
@@ -121,15 +122,9 @@ module _ (f : ToolFloor) (sound : Sound f) (m : ℕ) (c : ToolCommand) (fetched 
     its None e = refl
     its (Some s) e = ap (λ (b : Bool). b || list_any (processes s.sub) (change_module m behind f.modules)) e
 
-    of : (o : Option Substrate) → substrate_numbered k f.substrates ≡ o → (k ≡ n → ⊥) → of_one true (has_process f.modules) o ≡ true → of_one true (has_process (change_module m behind f.modules)) o ≡ true
-    of None g other e = refl
-    of (Some s) g other e = or (not (is_in_process s.states.processing)) e where
-      or : (b : Bool) → (b || list_any (processes s.sub) f.modules) ≡ true → (b || list_any (processes s.sub) (change_module m behind f.modules)) ≡ true
-      or true e = refl
-      or false e = others sub recipe q n names k s g other e
-
     by : (b : Bool) → (k == n) ≡ b → of_one true (has_process (change_module m behind f.modules)) (substrate_numbered k ss) ≡ true
     by true e = ap (λ (i : ℕ). of_one true (has_process (change_module m behind f.modules)) (substrate_numbered i ss)) ((Decides-eqb k n).0 e) ∙ its (substrate_numbered n ss) ended
     by false e =
         let other : k ≡ n → ⊥ = λ (is : k ≡ n). true≢false (sym ((Decides-eqb k n).1 is) ∙ e) in
-        ap (of_one true (has_process (change_module m behind f.modules))) (same k other) ∙ of (substrate_numbered k f.substrates) refl other (were k)
+        ap (of_one true (has_process (change_module m behind f.modules))) (same k other)
+        ∙ has_still f.modules (change_module m behind f.modules) (substrate_numbered k f.substrates) (λ s g. others sub recipe q n names k s g other) (were k)

@@ -1,5 +1,5 @@
 -- A carrier that is created, that comes to a port, and whose slot map becomes VERIFIED, does to the floor by numbers what the laws have.
-use Rattle.std.proofs.Common.{◌≡◌, ℕ, ◌==◌, Bool, true, false, if◌then◌else◌, List, map, Some, None, refl, ◌∙◌, ap}
+use Rattle.std.proofs.Common.{◌≡◌, ℕ, ◌==◌, Bool, true, false, if◌then◌else◌, List, Some, None, refl, ◌∙◌, ap}
 use Rattle.load_port.specs.declared.port.Port.{Port}
 use Rattle.carrier.specs.declared.carrier.Carrier.{Carrier}
 use Rattle.carrier.specs.Tables.{access_number}

@@ -1,3 +1,5 @@
+pub mod EachTable
+pub mod AtRest
 pub mod Tables
 pub mod Behind
 pub mod Scans

@@ -1,9 +1,8 @@
 -- Done of the open command of a module takes one off what is owed, with all its rows, where no row is ready before it.
 use Rattle.std.proofs.Common.{◌≡◌, ℕ, Bool, true, false, if◌then◌else◌, ◌&&◌, ◌++◌, List, [], ◌∷◌, Option, Some, None, refl, sym, ◌∙◌, ap, subst}
-use Rattle.std.specs.List.{AllByRecursion, list_any}
+use Rattle.std.specs.List.{list_any}
 use Rattle.std.proofs.lemmas.Bool.{true≢false}
 use Rattle.gem_tables.specs.Table.{firing, is_one_of, is_among, first_itself}
-use Rattle.gem_tables.specs.Machine.{Machine}
 use Rattle.gem_tables.proofs.Rows.{one_of_cases}
 use Rattle.tool_tasks.specs.declared.task.Command.{Command as ToolCommand}
 use Rattle.tool_tasks.specs.declared.task.Task.{Task as ToolTask}
@@ -21,7 +20,8 @@ use Rattle.floor_model.specs.Modules.{number_named}
 use Rattle.floor_model.specs.Naming.{processes}
 use Rattle.floor_model.specs.Signals.{at_module, done_row, at_done, done_processed, done_processing, done_at, done_rows}
 use Rattle.floor_model.specs.Wants.{substrate_wants}
-use Rattle.floor_model.specs.Machines.{substrate_starts, substrate_ready, floor_machines, floor_starts, floor_fired, floor_least}
+use Rattle.floor_model.specs.Machines.{substrate_starts, substrate_ready, floor_starts, floor_fired, floor_least}
+use Rattle.floor_model.proofs.AtRest.{none_ready}
 use Rattle.floor_moves.specs.Floor as law
 use Rattle.floor_moves.specs.Floor.{process, named}
 use Rattle.place_laws.specs.Picture.{picture, of_one, number_or_none, task_of}
@@ -34,7 +34,6 @@ use Rattle.floor_laws.proofs.FloorInputs.{listed_starts, done_starts, done_one}
 use Rattle.floor_laws.proofs.JobSight.{none_some}
 use Rattle.lot_laws.specs.Lot.{Executes, TakesOneOff}
 use Rattle.lot_laws.proofs.Answers.{done_moved-falls, closed-executes, processed-falls}
-use Rattle.lot_laws.proofs.Controls.{rest_none}
 use Rattle.floor_moves.proofs.Moving.{idle_not_busy}
 
 -- ---- what an open Process names is IN PROCESS where no row is ready
@@ -44,14 +43,10 @@ ready_needing : (finds : SubstrateWant → Bool) → finds want.process_names_it
 ready_needing finds e = rw e refl
 
 module _ (f : ToolFloor) (rest : floor_least f ≡ None) where
-  -- at no object of a table a row is ready
-  tables_rest : AllByRecursion (λ (m : Machine ToolFloor). (o : ℕ) → is_one_of (m.objects f) o ≡ true → m.ready o f ≡ None) floor_machines
-  tables_rest = rest_none f floor_machines rest
-
   pub is_in_process : (n : ℕ) (s : Substrate) → substrate_numbered n f.substrates ≡ Some s → list_any (processes s.sub) f.modules ≡ true → law.is_finished ((picture f).processing n) ≡ false → s.states.processing ≡ processing.InProcess
   is_in_process n s known names left = of s.states.processing refl (sym (ap (of_one 0 (λ (x : Substrate). processing_number x.states.processing)) known)) where
     ready : substrate_ready processing_number processing_table (λ x. x.processing) (Some s) f ≡ None
-    ready = subst (λ (o : Option Substrate). substrate_ready processing_number processing_table (λ x. x.processing) o f ≡ None) known (tables_rest.1.1.1.1.1.1.1.1.1.0 n (found_among number_of n f.substrates s known))
+    ready = subst (λ (o : Option Substrate). substrate_ready processing_number processing_table (λ x. x.processing) o f ≡ None) known ((none_ready f rest).processing n (found_among number_of n f.substrates s known))
 
     ended : (p : Processing) → s.states.processing ≡ p → processing_number s.states.processing ≡ (picture f).processing n → law.is_finished (processing_number p) ≡ true → p ≡ processing.InProcess
     ended p q e finished = absurd (true≢false (sym finished ∙ ap (λ (x : Processing). law.is_finished (processing_number x)) (sym q) ∙ ap law.is_finished e ∙ left))

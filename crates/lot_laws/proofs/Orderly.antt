@@ -5,7 +5,7 @@ use Rattle.std.proofs.lemmas.Bool.Decides.{Decides-eqb}
 use Rattle.gem_tables.specs.Table.{firing, is_one_of, is_among, row_of}
 use Rattle.gem_tables.specs.declared.firing.Firing.{Firing}
 use Rattle.gem_tables.proofs.Rows.{ready_row, one_of_cases, found_row}
-use Rattle.gem_tables.proofs.Machines.{starts_cases, least_cases}
+use Rattle.floor_model.proofs.EachTable.{starts_cases, least_cases}
 use Rattle.gem_ids.specs.declared.numbers.LocId.{LocId}
 use Rattle.tool_tasks.specs.declared.recipes.Recipe.{Recipe}
 use Rattle.tool_tasks.specs.declared.task.Command.{Command as ToolCommand}
@@ -56,7 +56,7 @@ use Rattle.floor_model.specs.Substrates.{is_of, reaches_verified, registers_foun
 use Rattle.floor_model.specs.Substrates as substrates
 use Rattle.floor_model.specs.Views.{planned}
 use Rattle.floor_model.specs.Wants.{substrate_wants}
-use Rattle.floor_model.specs.Machines.{substrate_ready, substrate_moves, with_moved, floor_machines, floor_starts, floor_fired, floor_least}
+use Rattle.floor_model.specs.Machines.{substrate_ready, substrate_moves, with_moved, floor_starts, floor_fired, floor_least}
 use Rattle.floor_model.proofs.Keeping.{least_starts}
 use Rattle.floor_moves.specs.Floor.{Loc, slot, arm, aligner, is_finished, place, align}
 use Rattle.floor_moves.specs.Valid.{IsDistinct, PlaceStands}
@@ -204,38 +204,21 @@ module _ (f : ToolFloor) (sound : Sound f) (o : OrderedAt f) where
 
   pub row-ordered : (x : Firing) → floor_starts x f ≡ true → is_mild_row x ≡ true → OrderedAt (floor_fired x f)
   row-ordered x starts mild =
-      starts_cases (λ (y : Firing). is_mild_row y ≡ true → OrderedAt (floor_fired y f)) f x floor_machines (
-        (λ s k. o),
-        (
-          (λ s k. o),
-          (
-            (λ s k. o),
-            (
-              (λ s k. association x.object x.row.row (not_or (x.row.row == 6) k)),
-              (
-                (λ s k. o),
-                (
-                  (λ s k. slots x.object x.row.row),
-                  (
-                    (λ s k. o),
-                    (
-                      (λ s k. o),
-                      (
-                        (λ s k. changed-ordered (substrate_moves 12 x.row.row) (transport_mild x.row.row) x.object f o),
-                        (
-                          (λ s k. processing-ordered f o x.object x.row.row (not_or (x.row.row == 8) k)),
-                          ((λ s k. process x.object x.row.row s), ((λ s k. control x.object x.row.row s), ((λ s k. module-ordered f o x.object x.row.row (not-true _ k)), tt))),
-                        ),
-                      ),
-                    ),
-                  ),
-                ),
-              ),
-            ),
-          ),
-        ),
-      )
-      starts mild
+      starts_cases (λ (y : Firing). is_mild_row y ≡ true → OrderedAt (floor_fired y f)) f x (record {
+        transfer = λ s k. o;
+        access = λ s k. o;
+        reservation = λ s k. o;
+        association = λ s k. association x.object x.row.row (not_or (x.row.row == 6) k);
+        id = λ s k. o;
+        map = λ s k. slots x.object x.row.row;
+        accessing = λ s k. o;
+        location = λ s k. o;
+        transport = λ s k. changed-ordered (substrate_moves 12 x.row.row) (transport_mild x.row.row) x.object f o;
+        processing = λ s k. processing-ordered f o x.object x.row.row (not_or (x.row.row == 8) k);
+        process_job = λ s k. process x.object x.row.row s;
+        control_job = λ s k. control x.object x.row.row s;
+        move = λ s k. module-ordered f o x.object x.row.row (not-true _ k);
+      }) starts mild
 
   -- the rows that inputs fire alone are so
   not_six : (row : ℕ) → not (is_one_of (2 ∷ 6 ∷ []) row) ≡ true → not ((row == 6) || false) ≡ true
@@ -250,44 +233,21 @@ module _ (f : ToolFloor) (sound : Sound f) (o : OrderedAt f) where
 
   common_mild : (x : Firing) → floor_starts x f ≡ true → is_common x ≡ true → is_mild_row x ≡ true
   common_mild x starts common =
-      starts_cases (λ (y : Firing). is_common y ≡ true → is_mild_row y ≡ true) f x floor_machines (
-        (λ s k. refl),
-        (
-          (λ s k. refl),
-          (
-            (λ s k. refl),
-            (
-              (λ s k. not_six x.row.row (and_parts (not (is_one_of (2 ∷ 6 ∷ []) x.row.row)) true k).0),
-              (
-                (λ s k. refl),
-                (
-                  (λ s k. refl),
-                  (
-                    (λ s k. refl),
-                    (
-                      (λ s k. refl),
-                      (
-                        (λ s k. refl),
-                        (
-                          (λ s k. one_of_cases (λ (r : ℕ). is_mild_row (firing 13 x.object r) ≡ true) (1 ∷ 2 ∷ 5 ∷ []) x.row.row (refl, (refl, (refl, tt))) (or_none (is_one_of (1 ∷ 2 ∷ 5 ∷ []) x.row.row) k)),
-                          (
-                            (λ s k. refl),
-                            (
-                              (λ s k. refl),
-                              ((λ s k. one_of_cases (λ (r : ℕ). is_mild_row (firing 16 x.object r) ≡ true) (1 ∷ 2 ∷ 3 ∷ 4 ∷ 10 ∷ []) x.row.row (refl, (refl, (refl, (refl, (refl, tt))))) k), tt),
-                            ),
-                          ),
-                        ),
-                      ),
-                    ),
-                  ),
-                ),
-              ),
-            ),
-          ),
-        ),
-      )
-      starts common
+      starts_cases (λ (y : Firing). is_common y ≡ true → is_mild_row y ≡ true) f x (record {
+        transfer = λ s k. refl;
+        access = λ s k. refl;
+        reservation = λ s k. refl;
+        association = λ s k. not_six x.row.row (and_parts (not (is_one_of (2 ∷ 6 ∷ []) x.row.row)) true k).0;
+        id = λ s k. refl;
+        map = λ s k. refl;
+        accessing = λ s k. refl;
+        location = λ s k. refl;
+        transport = λ s k. refl;
+        processing = λ s k. one_of_cases (λ (r : ℕ). is_mild_row (firing 13 x.object r) ≡ true) (1 ∷ 2 ∷ 5 ∷ []) x.row.row (refl, (refl, (refl, tt))) (or_none (is_one_of (1 ∷ 2 ∷ 5 ∷ []) x.row.row) k);
+        process_job = λ s k. refl;
+        control_job = λ s k. refl;
+        move = λ s k. one_of_cases (λ (r : ℕ). is_mild_row (firing 16 x.object r) ≡ true) (1 ∷ 2 ∷ 3 ∷ 4 ∷ 10 ∷ []) x.row.row (refl, (refl, (refl, (refl, (refl, tt))))) k;
+      }) starts common
 
   -- so are those that are ready by themselves
   processing_mild_row : (n row : ℕ) (s : Option Substrate) → substrate_ready processing_number processing_table (λ x. x.processing) s f ≡ Some row → is_mild_row (firing 13 n row) ≡ true
@@ -304,35 +264,22 @@ module _ (f : ToolFloor) (sound : Sound f) (o : OrderedAt f) where
 
   ready_mild : (x : Firing) → floor_least f ≡ Some x → is_mild_row x ≡ true
   ready_mild x e =
-      least_cases (λ (y : Firing). is_mild_row y ≡ true) f x floor_machines (
-        (λ i r s. refl),
-        (
-          (λ i r s. refl),
-          (
-            (λ i r s. refl),
-            (
-              (λ i r s. ready_at_port association_number association_table (λ s. s.association) (λ to s. record s { association = to }) (λ (p q : ℕ). is_mild_row (firing 7 p q) ≡ true) f.shop i r
-                  (λ place p at. ((λ i a w. refl), ((λ i a w. refl), ((λ i a w. refl), ((λ i a w. refl), ((λ i a w. refl), ((λ i a w. not_itself i), ((λ i a w. refl), tt)))))))) s),
-              (
-                (λ i r s. refl),
-                (
-                  (λ i r s. refl),
-                  (
-                    (λ i r s. refl),
-                    (
-                      (λ i r s. refl),
-                      (
-                        (λ i r s. refl),
-                        ((λ i r s. processing_mild_row i r (substrate_numbered i f.substrates) s), ((λ i r s. refl), ((λ i r s. refl), ((λ i r s. module_mild_row i r (planned i f) (module_at i f.modules) s), tt)))),
-                      ),
-                    ),
-                  ),
-                ),
-              ),
-            ),
-          ),
-        ),
-      ) e
+      least_cases (λ (y : Firing). is_mild_row y ≡ true) f x (record {
+        transfer = λ i r s. refl;
+        access = λ i r s. refl;
+        reservation = λ i r s. refl;
+        association = λ i r s. ready_at_port association_number association_table (λ s. s.association) (λ to s. record s { association = to }) (λ (p q : ℕ). is_mild_row (firing 7 p q) ≡ true) f.shop i r
+            (λ place p at. ((λ i a w. refl), ((λ i a w. refl), ((λ i a w. refl), ((λ i a w. refl), ((λ i a w. refl), ((λ i a w. not_itself i), ((λ i a w. refl), tt)))))))) s;
+        id = λ i r s. refl;
+        map = λ i r s. refl;
+        accessing = λ i r s. refl;
+        location = λ i r s. refl;
+        transport = λ i r s. refl;
+        processing = λ i r s. processing_mild_row i r (substrate_numbered i f.substrates) s;
+        process_job = λ i r s. refl;
+        control_job = λ i r s. refl;
+        move = λ i r s. module_mild_row i r (planned i f) (module_at i f.modules) s;
+      }) e
 
   pub common-ordered : (x : Firing) → floor_starts x f ≡ true → is_common x ≡ true → OrderedAt (floor_fired x f)
   common-ordered x starts common = row-ordered x starts (common_mild x starts common)

@@ -34,8 +34,9 @@ use Rattle.place_laws.specs.Sound.{Base}
 use Rattle.floor_laws.proofs.IssueHeld.{found_so}
 use Rattle.floor_laws.proofs.JobSight.{in_slot_from}
 use Rattle.floor_laws.proofs.JobNamed.{named_from}
-use Rattle.work_laws.proofs.Lists.{mapped_none, where_none, none_of}
+use Rattle.work_laws.proofs.Lists.{where_none, none_of}
 use Rattle.work_laws.proofs.Standing.{within, shown, none_held, place_named, target_there, useful_there}
+use Rattle.shop_floor.proofs.AtRest.{mapped_none}
 use Rattle.place_laws.proofs.QuietPorts.{no_row}
 
 -- ---- table 13

@@ -1,10 +1,10 @@
 -- Where no row of the floor is ready by itself, no module is Down and work is left, a command is open.
 use Rattle.std.proofs.Common.{◌≡◌, length, suc, zero, ◌≤◌, ℕ, ◌==◌, Bool, true, false, not, ◌||◌, ◌&&◌, if◌then◌else◌, List, [], ◌∷◌, map, Option, Some, None, refl, sym, ◌∙◌, ap, subst, arith}
-use Rattle.std.specs.List.{AllByRecursion, list_any}
+use Rattle.std.specs.List.{list_any}
 use Rattle.std.proofs.lemmas.Bool.{and_parts, and_from, or_parts, or_right, not-true, not-false}
 use Rattle.std.proofs.lemmas.Bool.Decides.{Decides-eqb}
 use Rattle.gem_tables.specs.Table.{is_one_of}
-use Rattle.gem_tables.specs.Machine.{first_ready}
+use Rattle.shop_floor.proofs.AtRest.{mapped_none}
 use Rattle.process_job.specs.Jobs.{AreNumbered, job_numbered}
 use Rattle.process_job.specs.declared.job.ProcessJob.{ProcessJob}
 use Rattle.process_job.specs.declared.record.JobState.{JobState}
@@ -17,9 +17,10 @@ use Rattle.floor_model.specs.declared.tracked.Substrate.{Substrate}
 use Rattle.floor_model.specs.Floor.{ToolFloor, substrate_numbered, number_of}
 use Rattle.floor_model.specs.Floor.{RiseTo}
 use Rattle.floor_model.specs.Jobs.{is_member, is_done_with, is_settled, job_of, is_processing, is_stopping, is_aborting, is_ending}
-use Rattle.floor_model.specs.Machines.{floor_machines, floor_least, substrate_ready}
+use Rattle.floor_model.specs.Machines.{floor_least, substrate_ready}
 use Rattle.floor_model.specs.Substrates.{is_outside, is_in_slot, is_removed}
 use Rattle.floor_model.specs.Views.{views}
+use Rattle.floor_model.proofs.AtRest.{rests, none_ready}
 use Rattle.floor_model.proofs.Moves.{firing_of, first_move_is}
 use Rattle.substrate.specs.Tables.{processing_number, processing_table}
 use Rattle.floor_moves.specs.Floor as law
@@ -37,7 +38,7 @@ use Rattle.floor_laws.proofs.JobWork.{finished_same}
 use Rattle.floor_laws.proofs.RegFound.{risen}
 use Rattle.work_laws.specs.Equipped.{Equipped}
 use Rattle.work_laws.specs.Work.{is_pausing, is_member_outside, has_work, is_work_left, is_down, is_any_down, has_open, is_any_open}
-use Rattle.work_laws.proofs.Lists.{mapped_none, not_all, first_none, none_least}
+use Rattle.work_laws.proofs.Lists.{not_all}
 use Rattle.work_laws.proofs.Resting.{none_planned, at_rest}
 use Rattle.work_laws.proofs.Standing.{there}
 use Rattle.work_laws.proofs.Chambers.{have_chambers}
@@ -175,18 +176,14 @@ module _ (f : ToolFloor) (sound : Sound f) where
 
 -- ---- the floor by numbers is at rest
 
-module _ (f : ToolFloor) (sound : Sound f) (equipped : Equipped f) (rests : floor_least f ≡ None) where
-  -- no row of any table is ready
-  tables_rest : AllByRecursion (λ m. first_ready m.table (λ object. m.ready object f) (m.objects f) ≡ None) floor_machines
-  tables_rest = none_least floor_machines f rests
-
+module _ (f : ToolFloor) (sound : Sound f) (equipped : Equipped f) (rest : floor_least f ≡ None) where
   -- so it is at rest, where each module is Idle
   still : ((m : ℕ) → 1 ≤ m → m ≤ length f.modules → is_idle (module_at m f.modules) ≡ true) → AtRest (picture f)
   still idles =
-      let nothing : next_move (views f) f.modules ≡ None = mapped_none (firing_of (views f) f.modules) (next_move (views f) f.modules) (sym (first_move_is f) ∙ tables_rest.1.1.1.1.1.1.1.1.1.1.1.1.0) in
+      let nothing : next_move (views f) f.modules ≡ None = mapped_none (firing_of (views f) f.modules) (next_move (views f) f.modules) (sym (first_move_is f) ∙ (rests f rest).move) in
       at_rest f sound.base sound.valid equipped.modules idles (none_planned f nothing)
       (λ n s found. sym (ap (λ (o : Option Substrate). substrate_ready processing_number processing_table (λ s. s.processing) o f) found)
-      ∙ first_none 13 (λ (n : ℕ). substrate_ready processing_number processing_table (λ s. s.processing) (substrate_numbered n f.substrates) f) (map number_of f.substrates) tables_rest.1.1.1.1.1.1.1.1.1.0 n (found_among number_of n f.substrates s found))
+      ∙ (none_ready f rest).processing n (found_among number_of n f.substrates s found))
 
 -- ---- modules
 

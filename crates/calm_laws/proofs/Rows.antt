@@ -8,7 +8,7 @@ use Rattle.gem_ids.specs.declared.numbers.PortNo.{PortNo}
 use Rattle.gem_ids.specs.Names.{name_in_slot}
 use Rattle.gem_tables.specs.Table.{firing, is_one_of, after}
 use Rattle.gem_tables.specs.declared.firing.Firing.{Firing}
-use Rattle.gem_tables.proofs.Machines.{starts_cases}
+use Rattle.floor_model.proofs.EachTable.{starts_cases}
 use Rattle.gem_tables.proofs.Rows.{one_of_cases}
 use Rattle.tool_tasks.specs.declared.task.Task.{Task}
 use Rattle.tool_tasks.specs.declared.task.Task.TheVariants as task
@@ -48,7 +48,7 @@ use Rattle.floor_model.specs.Floor.{ToolFloor, with_shop, with_jobs, with_module
 use Rattle.floor_model.specs.Jobs.{freed, found_sight, without_members}
 use Rattle.floor_model.specs.Modules.{module_behind, open_task, number_named, aligned, aligned_numbered, aligned_by}
 use Rattle.floor_model.specs.Substrates.{reaches_verified, is_of, without_carrier, can_register, first_substrate, registers_at, registers_slot, registers_slots, registers_at_port, registers_found}
-use Rattle.floor_model.specs.Machines.{floor_machines, floor_starts, floor_fired, registered_by, substrate_moves}
+use Rattle.floor_model.specs.Machines.{floor_starts, floor_fired, registered_by, substrate_moves}
 use Rattle.floor_moves.specs.Valid.{IsDistinct}
 use Rattle.place_laws.specs.Picture.{picture, of_one}
 use Rattle.place_laws.specs.Sound.{Sound}
@@ -397,37 +397,21 @@ module _ (number : ℕ) (counted : ℕ → Bool) (f : ToolFloor) where
 
   -- a row that an input fires, and that doesn't disturb it
   pub calm_row : (x : Firing) (h : ToolFloor) → floor_starts x h ≡ true → is_input x ≡ true → disturbs number counted f x ≡ false → Calm h → Calm (floor_fired x h)
-  calm_row x h starts input quiet c = starts_cases (λ (y : Firing). is_input y ≡ true → disturbs number counted f y ≡ false → Calm (floor_fired y h)) h x floor_machines (
-    (λ s i q. calm_shop (shop.floor_fired (firing 4 x.object x.row.row) h.shop) h c),
-    (
-      (λ s i q. calm_shop (shop.floor_fired (firing 5 x.object x.row.row) h.shop) h c),
-      (
-        (λ s i q. calm_shop (shop.floor_fired (firing 6 x.object x.row.row) h.shop) h c),
-        (
-          (λ s i q. association x.object x.row.row h i c),
-          (
-            (λ s i q. calm_shop (shop.floor_fired (firing 8 x.object x.row.row) h.shop) h c),
-            (
-              (λ s i q. slots x.object x.row.row h c),
-              (
-                (λ s i q. calm_shop (shop.floor_fired (firing 10 x.object x.row.row) h.shop) h c),
-                (
-                  (λ s i q. calm_says h (floor_fired (firing 11 x.object x.row.row) h) refl (λ n is over. refl) c),
-                  (
-                    (λ s i q. absurd (true≢false (sym i))),
-                    (
-                      (λ s i q. calm_processing x.object x.row.row h i q c),
-                      ((λ s i q. calm_process x.object h c x.row.row i q s), ((λ s i q. calm_control x.object x.row.row h i q c), ((λ s i q. calm_module x.object x.row.row h i q c), tt))),
-                    ),
-                  ),
-                ),
-              ),
-            ),
-          ),
-        ),
-      ),
-    ),
-  ) starts input quiet
+  calm_row x h starts input quiet c = starts_cases (λ (y : Firing). is_input y ≡ true → disturbs number counted f y ≡ false → Calm (floor_fired y h)) h x (record {
+    transfer = λ s i q. calm_shop (shop.floor_fired (firing 4 x.object x.row.row) h.shop) h c;
+    access = λ s i q. calm_shop (shop.floor_fired (firing 5 x.object x.row.row) h.shop) h c;
+    reservation = λ s i q. calm_shop (shop.floor_fired (firing 6 x.object x.row.row) h.shop) h c;
+    association = λ s i q. association x.object x.row.row h i c;
+    id = λ s i q. calm_shop (shop.floor_fired (firing 8 x.object x.row.row) h.shop) h c;
+    map = λ s i q. slots x.object x.row.row h c;
+    accessing = λ s i q. calm_shop (shop.floor_fired (firing 10 x.object x.row.row) h.shop) h c;
+    location = λ s i q. calm_says h (floor_fired (firing 11 x.object x.row.row) h) refl (λ n is over. refl) c;
+    transport = λ s i q. absurd (true≢false (sym i));
+    processing = λ s i q. calm_processing x.object x.row.row h i q c;
+    process_job = λ s i q. calm_process x.object h c x.row.row i q s;
+    control_job = λ s i q. calm_control x.object x.row.row h i q c;
+    move = λ s i q. calm_module x.object x.row.row h i q c;
+  }) starts input quiet
 
   -- ---- jobs
 

@@ -2,6 +2,7 @@
 use Rattle.std.proofs.Common.{◌≡◌, ◌≢◌, ◌⊎◌, inl, inr, ℕ, ◌+◌, ◌-◌, ◌<◌, ◌≤◌, Bool, true, false, if◌then◌else◌, List, [], ◌∷◌, ◌++◌, length, length-append, Result, Ok, Err, refl, sym, ◌∙◌, ap, subst, append_assoc, arith}
 use Rattle.std.proofs.lemmas.List.{append-nil}
 use Rattle.outside.specs.Counts.{Rose}
+use Rattle.text_lines.specs.Lines.{IsOneLine}
 use Rattle.outside.specs.Told.{Taken}
 use Rattle.tool_events.specs.declared.entry.Post.{Post}
 use Rattle.tool_events.specs.declared.event.Event.{Event}
@@ -16,7 +17,7 @@ use Rattle.actors.specs.Ends.{ArePosted, LastEnded, NoneEnded, NoneBehindEnded, 
 use Rattle.actors.specs.Scripts.{Script, AllSaid, OutsideGrammar, QuitAt, behind, line_events, line_says, lines_say, script_of}
 use Rattle.actors.specs.Operates.{OperatorDid, OperatorEnds, SaidBy, ScriptOver, script_bytes}
 use Rattle.actors.specs.Operating.{DeskTold, Posted, Refused, PostsAll, GivesUp, TakesLine, TakesLast, Quits, EndsAt, counts_of}
-use Rattle.actors.specs.ScriptReads.{ScriptRead, SourceTold, IsOneLine, IsPart, NextLine}
+use Rattle.actors.specs.ScriptReads.{ScriptRead, SourceTold, IsPart, NextLine}
 use Rattle.actors.specs.declared.end.ActorEnd.{ActorEnd}
 use Rattle.actors.specs.declared.end.ActorEnd.TheVariants as end
 use Rattle.actors.specs.declared.no_line.NoLine.{NoLine}

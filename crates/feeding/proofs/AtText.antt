@@ -1,6 +1,7 @@
 -- What a text gives up to where its reader stands.
 use Rattle.std.proofs.Common.{◌≡◌, ◌≢◌, ℕ, ◌+◌, Bool, true, false, if◌then◌else◌, List, [], ◌∷◌, ◌++◌, Result, Ok, refl, sym, ◌∙◌, ap, append_assoc, arith}
 use Rattle.std.proofs.lemmas.List.{append-nil}
+use Rattle.text_lines.specs.Lines.{IsOneLine}
 use Rattle.tool_events.specs.declared.entry.Entry.{Entry}
 use Rattle.line_grammar.specs.Texts.{lines_of, is_quit}
 use Rattle.line_grammar.specs.declared.line.Line.{Line}
@@ -12,7 +13,7 @@ use Rattle.gem_model.specs.Feed.{Reading, line_given, Told, QuitAt, AllRead, rea
 use Rattle.gem_model.specs.SessionBytes.{line_bytes_in, line_and_more, lines_bytes_in, session_in}
 use Rattle.line_grammar.proofs.Texts.{lines-last}
 use Rattle.feeding.specs.Views.{ReaderView}
-use Rattle.feeding.specs.Standing.{IsOneLine, Stands}
+use Rattle.feeding.specs.Standing.{Stands}
 
 -- the text and whatever follows it goes on from the part of a line
 pub text_goes : (text : List ℕ) (reader : ReaderView) (stands : Stands text reader) (more : List ℕ) → feed_entries reader.feeder.core.config (text ++ more) ≡ told_behind reader.feeder.core.history (feed_lines reader.number stands.reading (lines_of (reader.line ++ more)))

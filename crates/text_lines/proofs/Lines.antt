@@ -1,9 +1,16 @@
--- Where a line of a piece ends.
-use Rattle.std.proofs.Common.{◌≡◌, ℕ, zero, suc, ◌+◌, ◌-◌, ◌<◌, ◌≤◌, ◌==◌, true, false, List, [], ◌∷◌, ◌++◌, length, take, drop, get_or, slice_index, refl, sym, ap, subst, ◌∙◌, arith, take-append-drop, take_all, drop-cons, drop-drop, add-one, Option, Some, None, IfSome, IfNone}
+-- Laws of lines.
+use Rattle.std.proofs.Common.{◌≡◌, ℕ, zero, suc, ◌+◌, ◌<◌, ◌≤◌, ◌==◌, true, false, List, [], ◌∷◌, ◌++◌, length, take, drop, get_or, slice_index, refl, sym, ap, subst, ◌∙◌, arith, take-append-drop, take_all, drop-cons, add-one, Option, Some, None, IfSome, IfNone}
 use Rattle.std.proofs.lemmas.Bool.Decides.{nat_tests}
-use Rattle.std.proofs.lemmas.List.{drop-take, length-take}
 use Rattle.memchr.specs.Find.{IsFirstByte, is_byte}
-use Rattle.actors.specs.ScriptReads.{IsOneLine}
+use Rattle.text_lines.specs.Lines.{IsOneLine}
+
+-- two parts without a line feed have none together
+pub IsOneLine-both : (front part : List ℕ) → IsOneLine front → IsOneLine part → IsOneLine (front ++ part)
+IsOneLine-both [] part none one = one
+IsOneLine-both (b ∷ front) part none one =
+    let here : (b == 10) ≡ false = grind (arith, nat_tests) in
+    let others : IsOneLine front = grind (arith, nat_tests) in
+    rw here (IsOneLine-both front part others one)
 
 -- where no byte of a front is a line feed, it is one line
 front_line : (bytes : List ℕ) (end : ℕ) → end ≤ length bytes → ((k : ℕ) → k < end → (slice_index bytes k == 10) ≡ true → ⊥) → IsOneLine (take end bytes)
@@ -36,9 +43,3 @@ ends bytes (Some end) first = record {
   line = front_line bytes end (omega (arith, first.0.high)) (λ k less. first.0.before k (omega arith) less);
   none = tt;
 }
-
--- what is behind the front of what is kept of a piece
-pub kept_rest : (piece : List ℕ) (at end used : ℕ) → used ≤ length (take (end - at) (drop at piece)) → drop used (take (end - at) (drop at piece)) ≡ take (end - (at + used)) (drop (at + used) piece)
-kept_rest piece at end used within =
-    let size : end - at ≡ used + (end - (at + used)) = omega (arith, within, length-take (end - at) (drop at piece)) in
-    rw size (drop-take used (end - (at + used)) (drop at piece) ∙ ap (take (end - (at + used))) (drop-drop used at piece))

@@ -1,5 +1,5 @@
-use Rattle.feeding.proofs.LineEnds.{ends}
-use Rattle.feeding.proofs.reader.line_end.Goals as goal
+use Rattle.text_lines.proofs.Lines.{ends}
+use Rattle.text_lines.proofs.ends.line_end.Goals as goal
 
 pub returns-clause-feed : goal.returns-clause-feed
 returns-clause-feed c = (ends c.args.bytes.now c.memchr.result c.memchr.ensures).feed

@@ -5,7 +5,6 @@ pub mod Taking
 pub mod ReaderPosts
 pub mod ReaderReads
 pub mod ReaderDone
-pub mod ScriptLineEnds
 pub mod ScriptReading
 pub mod Operating
 pub mod ScriptStanding

@@ -1,13 +1,14 @@
 -- The lines of a script are read, one piece after another.
-use Rattle.std.proofs.Common.{◌≡◌, ◌==◌, ℕ, ◌+◌, ◌≤◌, true, false, List, [], ◌∷◌, ◌++◌, length, length-append, Option, Some, None, Ok, Err, refl, sym, ◌∙◌, ap, subst, append_assoc, arith}
+use Rattle.std.proofs.Common.{◌≡◌, ℕ, ◌+◌, ◌-◌, ◌≤◌, true, false, List, [], ◌∷◌, ◌++◌, length, length-append, take, drop, drop-drop, Option, Some, None, Ok, Err, refl, sym, ◌∙◌, ap, subst, append_assoc, arith}
 use Rattle.std.specs.Prelude.{⊤, MatchOption}
-use Rattle.std.proofs.lemmas.List.{append-nil}
-use Rattle.std.proofs.lemmas.Bool.Decides.{nat_tests}
+use Rattle.std.proofs.lemmas.List.{append-nil, drop-take, length-take}
+use Rattle.text_lines.specs.Lines.{IsOneLine}
+use Rattle.text_lines.proofs.Lines.{IsOneLine-both}
 use Rattle.outside.specs.Told.{Taken}
 use Rattle.outside.proofs.Writing.{Rose-wider}
 use Rattle.line_grammar.specs.Reading.{line_bytes}
 use Rattle.actors.specs.Operates.{script_bytes}
-use Rattle.actors.specs.ScriptReads.{ScriptRead, SourceTold, IsOneLine, TakesKept, ReadsPiece, IsOver, IsPart, NextLine, NothingLeftOf}
+use Rattle.actors.specs.ScriptReads.{ScriptRead, SourceTold, TakesKept, ReadsPiece, IsOver, IsPart, NextLine, NothingLeftOf}
 use Rattle.actors.specs.declared.no_line.NoLine.{NoLine}
 use Rattle.actors.specs.declared.no_line.NoLine.TheVariants as no_line
 
@@ -48,13 +49,11 @@ IsOver-since a b c xs taken earlier later over =
 
 -- ---- lines
 
--- two parts without a line feed have none together
-pub IsOneLine-both : (front part : List ℕ) → IsOneLine front → IsOneLine part → IsOneLine (front ++ part)
-IsOneLine-both [] part none one = one
-IsOneLine-both (b ∷ front) part none one =
-    let here : (b == 10) ≡ false = grind (arith, nat_tests) in
-    let others : IsOneLine front = grind (arith, nat_tests) in
-    rw here (IsOneLine-both front part others one)
+-- what is behind the front of what is kept of a piece
+pub kept_rest : (piece : List ℕ) (at end used : ℕ) → used ≤ length (take (end - at) (drop at piece)) → drop used (take (end - at) (drop at piece)) ≡ take (end - (at + used)) (drop (at + used) piece)
+kept_rest piece at end used within =
+    let size : end - at ≡ used + (end - (at + used)) = omega (arith, within, length-take (end - at) (drop at piece)) in
+    rw size (drop-take used (end - (at + used)) (drop at piece) ∙ ap (take (end - (at + used))) (drop-drop used at piece))
 
 -- what was read since the line began: all of it is in the line and in what is kept
 pub record Gathered (start now : ScriptRead) (source source' : SourceTold) : Type 0 where

@@ -2,6 +2,8 @@
 use Rattle.std.proofs.Common.{◌≡◌, ◌≢◌, ◌⊎◌, inl, inr, ℕ, ◌+◌, ◌-◌, ◌<◌, ◌≤◌, Bool, true, false, if◌then◌else◌, List, [], ◌∷◌, ◌++◌, length, length-append, Result, Ok, Err, refl, sym, ◌∙◌, ap, subst, append_assoc, arith}
 use Rattle.std.proofs.lemmas.List.{append-nil}
 use Rattle.outside.specs.Counts.{Rose}
+use Rattle.text_lines.specs.Lines.{IsOneLine, lines_of, whole_lines}
+use Rattle.text_lines.proofs.Lines.{first-long, last_line, lines-line, whole-feed, whole-none}
 use Rattle.outside.specs.Told.{Taken}
 use Rattle.tool_events.specs.declared.entry.Post.{Post}
 use Rattle.tool_events.specs.declared.event.Event.{Event}
@@ -9,14 +11,13 @@ use Rattle.line_grammar.specs.declared.line.Line.{Line}
 use Rattle.line_grammar.specs.declared.line.Line.TheVariants as line
 use Rattle.line_grammar.specs.Reading.{end_at, literal_at, before_space, from_space, digits_at, number_at, run_at, pairs_at, hex_at, line_bytes, script_line_of}
 use Rattle.line_grammar.specs.Lines.{script_lines, service_words, access_words, job_word, job_words, control_job_words, up_words, clear_words, lost_words, operator_words, placed_line, removed_line, done_line, failed_line, down_line, skipped_line, comment_line, operator_line, signal_line, watch_line, common_lines}
-use Rattle.line_grammar.specs.Texts.{is_quit, IsFront, lines_of, whole_lines, LineEnded}
-use Rattle.line_grammar.proofs.Texts.{lines-line, lines-last, whole-feed, whole-none, first-long}
+use Rattle.line_grammar.specs.Texts.{is_quit, IsFront, LineEnded}
 use Rattle.tool_texts.proofs.ScriptLines.{long_scripted}
 use Rattle.actors.specs.Ends.{ArePosted, LastEnded, NoneEnded, NoneBehindEnded, QuitPostedOr}
 use Rattle.actors.specs.Scripts.{Script, AllSaid, OutsideGrammar, QuitAt, behind, line_events, line_says, lines_say, script_of}
 use Rattle.actors.specs.Operates.{OperatorDid, OperatorEnds, SaidBy, ScriptOver, script_bytes}
 use Rattle.actors.specs.Operating.{DeskTold, Posted, Refused, PostsAll, GivesUp, TakesLine, TakesLast, Quits, EndsAt, counts_of}
-use Rattle.actors.specs.ScriptReads.{ScriptRead, SourceTold, IsOneLine, IsPart, NextLine}
+use Rattle.actors.specs.ScriptReads.{ScriptRead, SourceTold, IsPart, NextLine}
 use Rattle.actors.specs.declared.end.ActorEnd.{ActorEnd}
 use Rattle.actors.specs.declared.end.ActorEnd.TheVariants as end
 use Rattle.actors.specs.declared.no_line.NoLine.{NoLine}
@@ -104,10 +105,6 @@ quit_some text says is quits none =
     let skip : line.Skip ≡ says = cc same in
     let clash : false ≡ true = ap is_quit skip ∙ quits in
     cc clash
-
-last_line : (text : List ℕ) → IsOneLine text → text ≢ [] → lines_of text ≡ text ∷ []
-last_line [] one some = absurd (some refl)
-last_line (b ∷ text) one some = lines-last b text one
 
 -- what the last line says, which may be empty
 last_all : (number : ℕ) (text : List ℕ) (says : Line) → IsOneLine text → script_line_of text ≡ Ok says → is_quit says ≡ false → lines_say number (lines_of text) ≡ record { events = line_events says; stop = AllSaid }

@@ -4,7 +4,8 @@ use Rattle.outside.specs.Counts.{Rose}
 use Rattle.outside.specs.Told.{Taken, Whole}
 use Rattle.tool_events.specs.declared.entry.Post.{Post}
 use Rattle.tool_events.specs.declared.event.Event.{Event}
-use Rattle.line_grammar.specs.Texts.{IsFront, whole_lines, NumberEnded, EndedLines}
+use Rattle.text_lines.specs.Lines.{whole_lines}
+use Rattle.line_grammar.specs.Texts.{IsFront, NumberEnded, EndedLines}
 use Rattle.actors.specs.Ends.{ArePosted, LastEnded, NoneBehindEnded, QuitPosted, QuitPostedOr}
 use Rattle.actors.specs.Reads.{ReaderCounts}
 use Rattle.actors.specs.Scripts.{AllSaid, OutsideGrammar, QuitAt, script_of}

@@ -1,6 +1,6 @@
 -- The lines of a script, as they are read (this tool's profile, scripts).
-use Rattle.std.specs.Prelude.{◌≡◌, ◌≢◌, ℕ, ◌+◌, ◌<◌, ◌≤◌, ◌==◌, ⊤, true, false, List, [], ◌∷◌, ◌++◌, length, Option, Some, None, Bool, Result, Ok, Err}
-use Rattle.std.specs.List.{list_any}
+use Rattle.std.specs.Prelude.{◌≡◌, ◌≢◌, ℕ, ◌+◌, ◌<◌, ◌≤◌, ⊤, true, false, List, [], ◌∷◌, ◌++◌, length, Option, Some, None, Bool, Result, Ok, Err}
+use Rattle.text_lines.specs.Lines.{IsOneLine}
 use Rattle.outside.specs.Counts.{Rose}
 use Rattle.outside.specs.Told.{Taken, NothingLeft}
 use Rattle.line_grammar.specs.Reading.{line_bytes}
@@ -26,10 +26,6 @@ pub record SourceTold : Type 0 where
 -- what this source tells
 abbrev pub source_told : {S : Type 0} → (S → Option (List ℕ)) → (S → ℕ) → (S → ℕ) → S → SourceTold
 source_told left faults ends source = record { left = left source; faults = faults source; ends = ends source }
-
--- no line feed is among the bytes
-abbrev pub IsOneLine : List ℕ → Type 0
-IsOneLine bytes = list_any (λ b. b == 10) bytes ≡ false
 
 -- ---- what is done with the bytes that are kept
 

@@ -2,9 +2,10 @@
 use Rattle.std.specs.Prelude.{ℕ, ◌+◌, if◌then◌else◌, List, [], ◌∷◌, ◌++◌, Result, Ok, Err}
 use Rattle.tool_events.specs.declared.event.Event.{Event}
 use Rattle.tool_events.specs.declared.event.Event.TheVariants as event
+use Rattle.text_lines.specs.Lines.{lines_of}
 use Rattle.line_grammar.specs.declared.line.Line.{Line}
 use Rattle.line_grammar.specs.declared.line.Line.TheVariants as line
-use Rattle.line_grammar.specs.Texts.{is_quit, lines_of}
+use Rattle.line_grammar.specs.Texts.{is_quit}
 use Rattle.line_grammar.specs.Reading.{script_line_of}
 
 -- what a line of a script posts: a watch is posted until it is answered

@@ -1,15 +1,15 @@
 //! A script as lines: bytes are read in pieces and gathered to lines.
-ghost use Rattle.std.specs.Prelude.{◌≡◌, ◌≢◌, ◌+◌, ◌-◌, ◌⊎◌, ◌<◌, ◌≤◌, ◌==◌, ℕ, [], ◌∷◌, ◌++◌, length, take, drop, false, Err, IfSome, IfNone, IfErr, OnOk, OnErr};
-ghost use Rattle.std.specs.List.{list_any};
+ghost use Rattle.std.specs.Prelude.{◌≡◌, ◌+◌, ◌-◌, ◌⊎◌, ◌<◌, ◌≤◌, [], ◌∷◌, ◌++◌, length, take, drop, Err, IfSome, IfNone, IfErr, OnOk, OnErr};
+ghost use Rattle.text_lines.specs.Lines.{IsOneLine};
 ghost use Rattle.actors.specs.declared.no_line.NoLine.TheVariants as no_line;
 ghost use Rattle.actors.specs.Operates.{script_bytes};
 ghost use Rattle.actors.specs.ScriptReads.{TakesKept, ReadsPiece, NextLine, source_told};
 
 use crate::no_line::NoLine;
-use memchr::memchr;
 use outside::{Source, read_front};
 use std::alloc::Global;
 use std::marker::Model;
+use text_lines::{JoinFault, join_line, line_end};
 use tool_texts::LINE_BYTES;
 
 /// So many bytes of a script are read at most.
@@ -92,8 +92,8 @@ impl ScriptLines {
     fn kept_end(&self) -> Option<usize>
         ensures within { IfSome result (λ end. end < length self.now.kept) }
         ensures feed { IfSome result (λ end. self.now.kept ≡ take end self.now.kept ++ 10 ∷ drop (end + 1) self.now.kept) }
-        ensures line { IfSome result (λ end. list_any (λ b. b == 10) (take end self.now.kept) ≡ false) }
-        ensures none { IfNone result (list_any (λ b. b == 10) self.now.kept ≡ false) }
+        ensures line { IfSome result (λ end. IsOneLine (take end self.now.kept)) }
+        ensures none { IfNone result (IsOneLine self.now.kept) }
     {
         line_end(part(&self.piece, self.at, self.end))
     }
@@ -110,12 +110,13 @@ impl ScriptLines {
         ensures count { self.new.count ≡ self.old.count }
     {
         let to = self.at + count;
-        match join(&mut self.line, part(&self.piece, self.at, to)) {
+        match join_line(&mut self.line, part(&self.piece, self.at, to), LINE_BYTES) {
             Ok(()) => {
                 self.at += used;
                 Ok(())
             }
-            Err(why) => Err(why),
+            Err(JoinFault::Long) => Err(NoLine::Long),
+            Err(JoinFault::NoMemory) => Err(NoLine::NoMemory),
         }
     }
 
@@ -190,30 +191,4 @@ fn part(piece: &[u8], from: usize, to: usize) -> &[u8]
     ensures { result.now ≡ take (to - from) (drop from piece.now) }
 {
     &piece[from..to]
-}
-
-// These bytes go behind the line, unless it would then have over 600,000.
-fn join(line: &mut Vec<u8>, part: &[u8]) -> Result<(), NoLine>
-    ensures joined { OnOk result (line.new.items ≡ line.old.items ++ part.now) }
-    ensures fits { OnOk result (length line.old.items ≤ 600000 → length line.new.items ≤ 600000) }
-    ensures long { result ≡ Err no_line.Long → 600000 < length line.old.items + length part.now }
-    ensures why { IfErr result (λ why. (why ≡ no_line.Long) ⊎ (why ≡ no_line.NoMemory)) }
-{
-    if part.len() > LINE_BYTES.saturating_sub(line.len()) {
-        return Err(NoLine::Long);
-    }
-    match line.extend_from_slice(part) {
-        Ok(()) => Ok(()),
-        Err(_) => Err(NoLine::NoMemory),
-    }
-}
-
-// The place of the first line feed.
-fn line_end(bytes: &[u8]) -> Option<usize>
-    ensures within { IfSome result (λ end. end < length bytes.now) }
-    ensures feed { IfSome result (λ end. bytes.now ≡ take end bytes.now ++ 10 ∷ drop (end + 1) bytes.now) }
-    ensures line { IfSome result (λ end. list_any (λ b. b == 10) (take end bytes.now) ≡ false) }
-    ensures none { IfNone result (list_any (λ b. b == 10) bytes.now ≡ false) }
-{
-    memchr(b'\n', bytes)
 }

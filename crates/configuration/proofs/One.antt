@@ -1,42 +1,54 @@
 -- A text says one configuration, or has one least rule that it breaks.
-use Rattle.std.proofs.Common.{◌≡◌, ℕ, List, Some, None, is_some, inl, inr, sym, ap, ◌∙◌, subst}
+use Rattle.std.proofs.Common.{◌≡◌, ℕ, List, [], ◌∷◌, Some, None, is_some, inl, inr, sym, ap, ◌∙◌, subst}
 use Rattle.std.proofs.lemmas.Bool.{false≢true}
 use Rattle.toml.specs.Data.{Members}
 use Rattle.tool_events.specs.declared.config.Config.{Config}
 use Rattle.configuration.specs.declared.fault.ConfigFault.{ConfigFault}
-use Rattle.configuration.specs.Rules.{rules, rules_for, AreGiven, least_broken}
+use Rattle.configuration.specs.Rules.{Row, row, rules, rules_for, AreGiven, least_broken}
 use Rattle.configuration.specs.Reading.{IsToml, Says, Breaks}
 
 same : {A : Type 0} {x y z : A} → x ≡ z → y ≡ z → x ≡ y
 same p q = p ∙ sym q
 
+-- two configurations say the same at each row
+abbrev AreAlike : Config → Config → List Row → Type 0
+AreAlike c d [] = Unit {0}
+AreAlike c d (row rule key kind default field ∷ rows) = (field c ≡ field d) × AreAlike c d rows
+
+alike : (ms : Members) (c d : Config) (rows : List Row) → AreGiven ms c rows → AreGiven ms d rows → AreAlike c d rows
+alike ms c d [] a b = tt
+alike ms c d (row rule key kind default field ∷ rows) a b = (same a.0 b.0, alike ms c d rows a.1 b.1)
+
 -- the rows say each field of a configuration
-pub one_given : (n : ℕ) (ms : Members) (c d : Config) → AreGiven ms c (rules n) → AreGiven ms d (rules n) → c ≡ d
+each_field : (n : ℕ) (c d : Config) → AreAlike c d (rules n) → c ≡ d
 unfolding rules
-one_given n ms c d a b = λ i. record {
-  version = same (a.0) (b.0) i;
-  device = same (a.1.0) (b.1.0) i;
-  mdln = same (a.1.1.0) (b.1.1.0) i;
-  softrev = same (a.1.1.1.0) (b.1.1.1.0) i;
-  communication = same (a.1.1.1.1.0) (b.1.1.1.1.0) i;
-  control = same (a.1.1.1.1.1.0) (b.1.1.1.1.1.0) i;
-  chambers = same (a.1.1.1.1.1.1.0) (b.1.1.1.1.1.1.0) i;
-  ports = same (a.1.1.1.1.1.1.1.0) (b.1.1.1.1.1.1.1.0) i;
-  spool_capacity = same (a.1.1.1.1.1.1.1.1.0) (b.1.1.1.1.1.1.1.1.0) i;
-  spool_streams = same (a.1.1.1.1.1.1.1.1.1.0) (b.1.1.1.1.1.1.1.1.1.0) i;
-  overwrite = same (a.1.1.1.1.1.1.1.1.1.1.0) (b.1.1.1.1.1.1.1.1.1.1.0) i;
-  max_transmit = same (a.1.1.1.1.1.1.1.1.1.1.1.0) (b.1.1.1.1.1.1.1.1.1.1.1.0) i;
-  t3 = same (a.1.1.1.1.1.1.1.1.1.1.1.1.0) (b.1.1.1.1.1.1.1.1.1.1.1.1.0) i;
-  t6 = same (a.1.1.1.1.1.1.1.1.1.1.1.1.1.0) (b.1.1.1.1.1.1.1.1.1.1.1.1.1.0) i;
-  t7 = same (a.1.1.1.1.1.1.1.1.1.1.1.1.1.1.0) (b.1.1.1.1.1.1.1.1.1.1.1.1.1.1.0) i;
-  establish = same (a.1.1.1.1.1.1.1.1.1.1.1.1.1.1.1.0) (b.1.1.1.1.1.1.1.1.1.1.1.1.1.1.1.0) i;
-  linktest = same (a.1.1.1.1.1.1.1.1.1.1.1.1.1.1.1.1.0) (b.1.1.1.1.1.1.1.1.1.1.1.1.1.1.1.1.0) i;
-  max_entries = same (a.1.1.1.1.1.1.1.1.1.1.1.1.1.1.1.1.1.0) (b.1.1.1.1.1.1.1.1.1.1.1.1.1.1.1.1.1.0) i;
-  max_bytes = same (a.1.1.1.1.1.1.1.1.1.1.1.1.1.1.1.1.1.1.0) (b.1.1.1.1.1.1.1.1.1.1.1.1.1.1.1.1.1.1.0) i;
-  start_moment = record { 0 = same (a.1.1.1.1.1.1.1.1.1.1.1.1.1.1.1.1.1.1.1.0) (b.1.1.1.1.1.1.1.1.1.1.1.1.1.1.1.1.1.1.1.0) i };
-  recipes = same (a.1.1.1.1.1.1.1.1.1.1.1.1.1.1.1.1.1.1.1.1.0) (b.1.1.1.1.1.1.1.1.1.1.1.1.1.1.1.1.1.1.1.1.0) i;
-  tcp_port = same (a.1.1.1.1.1.1.1.1.1.1.1.1.1.1.1.1.1.1.1.1.1.0) (b.1.1.1.1.1.1.1.1.1.1.1.1.1.1.1.1.1.1.1.1.1.0) i;
+each_field n c d (version, (device, (mdln, (softrev, (communication, (control, (chambers, (ports, (spool_capacity, (spool_streams, (overwrite, (max_transmit, (t3, (t6, (t7, (establish, (linktest, (max_entries, (max_bytes, (start_moment, (recipes, (tcp_port, rest)))))))))))))))))))))) = λ i. record {
+  version = version i;
+  device = device i;
+  mdln = mdln i;
+  softrev = softrev i;
+  communication = communication i;
+  control = control i;
+  chambers = chambers i;
+  ports = ports i;
+  spool_capacity = spool_capacity i;
+  spool_streams = spool_streams i;
+  overwrite = overwrite i;
+  max_transmit = max_transmit i;
+  t3 = t3 i;
+  t6 = t6 i;
+  t7 = t7 i;
+  establish = establish i;
+  linktest = linktest i;
+  max_entries = max_entries i;
+  max_bytes = max_bytes i;
+  start_moment = record { 0 = start_moment i };
+  recipes = recipes i;
+  tcp_port = tcp_port i;
 }
+
+pub one_given : (n : ℕ) (ms : Members) (c d : Config) → AreGiven ms c (rules n) → AreGiven ms d (rules n) → c ≡ d
+one_given n ms c d a b = each_field n c d (alike ms c d (rules n) a b)
 
 some_same : {A : Type 0} {x y : A} → Some x ≡ Some y → x ≡ y
 some_same {A} {x} e = ap (λ o. elim o as (λ _. A) [ None ↦ x | Some z ↦ z ]) e

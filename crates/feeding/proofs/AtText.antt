@@ -1,8 +1,10 @@
 -- What a text gives up to where its reader stands.
 use Rattle.std.proofs.Common.{◌≡◌, ◌≢◌, ℕ, ◌+◌, Bool, true, false, if◌then◌else◌, List, [], ◌∷◌, ◌++◌, Result, Ok, refl, sym, ◌∙◌, ap, append_assoc, arith}
 use Rattle.std.proofs.lemmas.List.{append-nil}
+use Rattle.text_lines.specs.Lines.{IsOneLine, lines_of}
+use Rattle.text_lines.proofs.Lines.{last_line}
 use Rattle.tool_events.specs.declared.entry.Entry.{Entry}
-use Rattle.line_grammar.specs.Texts.{lines_of, is_quit}
+use Rattle.line_grammar.specs.Texts.{is_quit}
 use Rattle.line_grammar.specs.declared.line.Line.{Line}
 use Rattle.line_grammar.specs.declared.line.Line.TheVariants as line
 use Rattle.line_grammar.specs.Reading.{end_at, literal_at, before_space, from_space, digits_at, number_at, run_at, pairs_at, hex_at, feed_line_of}
@@ -10,9 +12,8 @@ use Rattle.line_grammar.specs.Lines.{feed_lines as grammar}
 use Rattle.line_grammar.specs.Lines.{service_words, access_words, job_word, job_words, control_job_words, up_words, clear_words, lost_words, operator_words, placed_line, removed_line, done_line, failed_line, down_line, skipped_line, comment_line, moment_line, hex_line, operator_line, signal_line, watch_line, common_lines, link_lines}
 use Rattle.gem_model.specs.Feed.{Reading, line_given, Told, QuitAt, AllRead, reading_after, line_told, told_behind, feed_lines, feed_entries}
 use Rattle.gem_model.specs.SessionBytes.{line_bytes_in, line_and_more, lines_bytes_in, session_in}
-use Rattle.line_grammar.proofs.Texts.{lines-last}
 use Rattle.feeding.specs.Views.{ReaderView}
-use Rattle.feeding.specs.Standing.{IsOneLine, Stands}
+use Rattle.feeding.specs.Standing.{Stands}
 
 -- the text and whatever follows it goes on from the part of a line
 pub text_goes : (text : List ℕ) (reader : ReaderView) (stands : Stands text reader) (more : List ℕ) → feed_entries reader.feeder.core.config (text ++ more) ≡ told_behind reader.feeder.core.history (feed_lines reader.number stands.reading (lines_of (reader.line ++ more)))
@@ -25,10 +26,6 @@ pub at_end : (text : List ℕ) (reader : ReaderView) (stands : Stands text reade
 at_end text reader stands =
     ap (feed_entries reader.feeder.core.config) (sym (append-nil text)) ∙ text_goes text reader stands []
     ∙ ap (λ (t : List ℕ). told_behind reader.feeder.core.history (feed_lines reader.number stands.reading (lines_of t))) (append-nil reader.line)
-
-pub last_line : (line : List ℕ) → IsOneLine line → line ≢ [] → lines_of line ≡ line ∷ []
-last_line [] one some = absurd (some refl)
-last_line (b ∷ line) one some = lines-last b line one
 
 -- the same of the bytes that it gives to a session
 pub text_in : (text : List ℕ) (reader : ReaderView) (stands : Stands text reader) (more : List ℕ) (session : ℕ) → session_in reader.feeder.core.config (text ++ more) session ≡ session_in reader.feeder.core.config stands.whole session + lines_bytes_in stands.reading (lines_of (reader.line ++ more)) session

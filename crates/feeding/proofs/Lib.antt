@@ -1,7 +1,6 @@
 pub mod LineParts
 pub mod AtText
 pub mod Stopping
-pub mod LineEnds
 pub mod Standing
 pub mod Progress
 pub mod Ending

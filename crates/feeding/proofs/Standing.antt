@@ -1,18 +1,18 @@
 -- The reader of a text, part by part.
-use Rattle.std.proofs.Common.{◌≡◌, ◌≢◌, ◌==◌, ◌⊎◌, inl, inr, ℕ, ◌+◌, ◌<◌, List, [], ◌∷◌, ◌++◌, length, Bool, true, false, if◌then◌else◌, Option, Result, Ok, Err, refl, sym, ◌∙◌, ap, subst, append_assoc, arith, length-append}
+use Rattle.std.proofs.Common.{◌≡◌, ◌≢◌, ◌⊎◌, inl, inr, ℕ, ◌+◌, ◌<◌, List, [], ◌∷◌, ◌++◌, length, Bool, true, false, if◌then◌else◌, Option, Result, Ok, Err, refl, sym, ◌∙◌, ap, subst, append_assoc, arith, length-append}
 use Rattle.std.specs.Prelude.{⊤}
 use Rattle.std.proofs.lemmas.List.{append-nil}
-use Rattle.std.proofs.lemmas.Bool.Decides.{nat_tests}
+use Rattle.text_lines.specs.Lines.{IsOneLine, lines_of, whole_lines}
+use Rattle.text_lines.proofs.Lines.{IsOneLine-both, first-long, lines-line, whole-feed, whole-none, last_line}
 use Rattle.tool_events.specs.declared.entry.Entry.{Entry}
 use Rattle.tool_events.specs.declared.config.Config.{Config}
-use Rattle.line_grammar.specs.Texts.{IsFront, IsLong, lines_of, whole_lines, is_quit}
+use Rattle.line_grammar.specs.Texts.{IsFront, IsLong, is_quit}
 use Rattle.line_grammar.specs.declared.line.Line.{Line}
 use Rattle.line_grammar.specs.Reading.{feed_line_of, line_bytes}
 use Rattle.line_grammar.proofs.Public.{long_line as too-long}
 use Rattle.gem_model.specs.Feed.{Given, Reading, Told, AllRead, OutsideGrammar, QuitAt, line_given, line_told, told_behind, feed_lines, feed_entries, reading_after, first_reading}
 use Rattle.gem_model.specs.Sizes.{counted}
 use Rattle.gem_model.specs.SessionBytes.{line_and_more, line_bytes_in, lines_bytes_in, session_in}
-use Rattle.line_grammar.proofs.Texts.{lines-line, whole-feed, whole-none, first-long}
 use Rattle.history_parts.specs.Counts.{count_of}
 use Rattle.history_parts.specs.CoreView.{CoreView}
 use Rattle.line_feeding.specs.declared.halt.Halt.{Halt}
@@ -24,11 +24,11 @@ use Rattle.line_feeding.specs.Reads.{AreCounts, HaveRead}
 use Rattle.feeding.specs.Reading.{IsReading, TakesLine, TreatsLine}
 use Rattle.line_feeding.specs.Quitting.{quit_behind}
 use Rattle.line_feeding.specs.Stopping.{GivenBy, CountsTo}
-use Rattle.feeding.specs.Standing.{IsOneLine, Stands, StoppedAs, StopsAt, AllTaken, Prints, StandsOrStopped, Takes, AllOrStopped}
+use Rattle.feeding.specs.Standing.{Stands, StoppedAs, StopsAt, AllTaken, Prints, StandsOrStopped, Takes, AllOrStopped}
 use Rattle.driving.proofs.Fronts.{IsFront-append}
 use Rattle.line_feeding.proofs.Going.{Failed-wider, stay_then}
 use Rattle.outside.proofs.Writing.{WrittenFront-all}
-use Rattle.feeding.proofs.AtText.{text_goes, at_end, last_line, text_in}
+use Rattle.feeding.proofs.AtText.{text_goes, at_end, text_in}
 use Rattle.feeding.proofs.Stopping.{stopped_before, given_before, stopped_outside, line_at, line_gives, line_counts, stopped_cases}
 
 -- ---- the output
@@ -232,14 +232,6 @@ Stands-open c reader line number history config is none = record {
   read = λ session. rw none (no_count session);
   reads_on = λ more session. rw config (omega arith);
 }
-
--- two parts without a line feed have none together
-IsOneLine-both : (front part : List ℕ) → IsOneLine front → IsOneLine part → IsOneLine (front ++ part)
-IsOneLine-both [] part none one = one
-IsOneLine-both (b ∷ front) part none one =
-    let here : (b == 10) ≡ false = grind (arith, nat_tests) in
-    let others : IsOneLine front = grind (arith, nat_tests) in
-    rw here (IsOneLine-both front part others one)
 
 pub Stands-push : (text : List ℕ) (part : List ℕ) (old new : ReaderView) → IsOneLine part → Stands text old → new.line ≡ old.line ++ part → new.feeder ≡ old.feeder → new.number ≡ old.number → Stands (text ++ part) new
 Stands-push text part old new one stands line feeder number = record {

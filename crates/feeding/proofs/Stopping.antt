@@ -3,7 +3,9 @@ use Rattle.std.proofs.Common.{◌≡◌, ◌≢◌, ◌⊎◌, inl, inr, ℕ, �
 use Rattle.std.proofs.lemmas.List.{append-nil}
 use Rattle.tool_events.specs.declared.config.Config.{Config}
 use Rattle.tool_events.specs.declared.entry.Entry.{Entry}
-use Rattle.line_grammar.specs.Texts.{IsFront, lines_of, whole_lines, LineEnded, EndedLines, is_quit}
+use Rattle.text_lines.specs.Lines.{lines_of, whole_lines}
+use Rattle.text_lines.proofs.Lines.{last_line}
+use Rattle.line_grammar.specs.Texts.{IsFront, LineEnded, EndedLines, is_quit}
 use Rattle.line_grammar.specs.declared.line.Line.{Line}
 use Rattle.line_grammar.specs.declared.line.Line.TheVariants.{Skip}
 use Rattle.line_grammar.specs.Reading.{feed_line_of}
@@ -22,7 +24,7 @@ use Rattle.line_feeding.specs.Quitting.{quit_behind}
 use Rattle.line_feeding.specs.Stopping.{GivenBy, StoppedIn, TakenTo, CountsTo, AtLine}
 use Rattle.feeding.specs.Standing.{Stands, StopsAt}
 use Rattle.driving.proofs.Fronts.{IsFront-same, IsFront-then}
-use Rattle.feeding.proofs.AtText.{last_line, whole_told, text_entries, text_bytes_in, empty_line, said_so}
+use Rattle.feeding.proofs.AtText.{whole_told, text_entries, text_bytes_in, empty_line, said_so}
 
 -- the whole lines before the part of a line
 whole_of : (text : List ℕ) (reader : ReaderView) (stands : Stands text reader) → whole_lines text ≡ stands.whole

@@ -1,7 +1,7 @@
 -- How the reading of an input ended.
+use Rattle.text_lines.specs.Lines.{whole_lines}
 use Rattle.std.specs.Prelude.{◌≡◌, ℕ, List, length, Result, Ok, Err}
 use Rattle.outside.specs.Counts.{Rose}
-use Rattle.line_grammar.specs.Texts.{whole_lines}
 use Rattle.line_feeding.specs.declared.halt.Halt.{Halt}
 use Rattle.line_feeding.specs.declared.halt.InputEnd.{InputEnd}
 use Rattle.line_feeding.specs.declared.halt.InputEnd.TheVariants as input

@@ -1,9 +1,9 @@
 -- Where the reader of a text stands.
-use Rattle.std.specs.Prelude.{◌≡◌, ◌≢◌, ℕ, ◌+◌, ◌≤◌, ⊤, false, ◌==◌, List, ◌++◌, length, Option, Result, Ok, Err, IsErrOf}
-use Rattle.std.specs.List.{list_any}
+use Rattle.std.specs.Prelude.{◌≡◌, ◌≢◌, ℕ, ◌+◌, ◌≤◌, ⊤, List, ◌++◌, length, Option, Result, Ok, Err, IsErrOf}
+use Rattle.text_lines.specs.Lines.{IsOneLine, lines_of, whole_lines}
 use Rattle.tool_events.specs.declared.entry.Entry.{Entry}
 use Rattle.tool_events.specs.declared.config.Config.{Config}
-use Rattle.line_grammar.specs.Texts.{IsFront, lines_of, whole_lines}
+use Rattle.line_grammar.specs.Texts.{IsFront}
 use Rattle.gem_model.specs.SessionBytes.{lines_bytes_in, session_in}
 use Rattle.gem_model.specs.Feed.{Reading, Told, AllRead, OutsideGrammar, QuitAt, feed_lines, feed_entries, told_behind}
 use Rattle.history_parts.specs.CoreView.{CoreView}
@@ -16,10 +16,6 @@ use Rattle.line_feeding.specs.Going.{SinkView, Shows, ShowsAtEnd}
 use Rattle.line_feeding.specs.Reads.{HaveRead}
 use Rattle.feeding.specs.Reading.{IsReading}
 use Rattle.line_feeding.specs.Stopping.{GivenBy, CountsTo, AtLine}
-
--- no line feed is among the bytes
-abbrev pub IsOneLine : List ℕ → Type 0
-IsOneLine bytes = list_any (λ b. b == 10) bytes ≡ false
 
 -- The text up to now is whole lines and then a part of a line, whose number is told. The history is what the whole lines
 -- gave, the counts are of their bytes, and whatever follows them goes on from here.

@@ -1,15 +1,15 @@
 //! The input as lines: bytes are gathered to lines, and each line is taken at its line feed.
-ghost use Rattle.std.specs.Prelude.{◌≡◌, ◌+◌, ◌<◌, ◌≤◌, ◌≢◌, ◌^◌, ◌==◌, ℕ, List, [], ◌∷◌, ◌++◌, length, take, drop, true, false, Err, IfOk, IfSome, IfNone, OnOk};
-ghost use Rattle.std.specs.List.{list_any};
+ghost use Rattle.std.specs.Prelude.{◌≡◌, ◌+◌, ◌<◌, ◌≤◌, ◌≢◌, ◌^◌, ℕ, List, [], ◌∷◌, ◌++◌, length, true, Err, IfOk, OnOk};
+ghost use Rattle.text_lines.specs.Lines.{IsOneLine};
 ghost use Rattle.tool_events.specs.Configs.{IsConfig};
 ghost use Rattle.line_feeding.specs.Going.{seen};
 
 use crate::feeder::Feeder;
 use history_laws::Recorder;
 use line_feeding::Halt;
-use memchr::memchr;
 use outside::Sink;
 use std::alloc::{AllocError, Global};
+use text_lines::{JoinFault, first_line, join_line};
 use tool_events::Config;
 use tool_texts::LINE_BYTES;
 
@@ -25,7 +25,7 @@ pub struct Reader<C: Recorder> {
 
 impl<C: Recorder> Reader<C> {
     ghost use Rattle.feeding.specs.Views.{reader_seen};
-    ghost use Rattle.feeding.specs.Standing.{IsOneLine, Stands, StandsOrStopped, Takes, Finishes};
+    ghost use Rattle.feeding.specs.Standing.{Stands, StandsOrStopped, Takes, Finishes};
 
     /// A reader before the first byte.
     pub fn open(alloc: Global, config: &Config) -> Result<Reader<C>, AllocError>
@@ -70,12 +70,10 @@ impl<C: Recorder> Reader<C> {
         ensures fault { result ≢ Err Halt.Write }
         ensures number { self.new.number ≡ self.old.number }
     {
-        if part.len() > LINE_BYTES.saturating_sub(self.line.len()) {
-            return Err(Halt::Line(LINE_BYTES as u64));
-        }
-        match self.line.extend_from_slice(part) {
+        match join_line(&mut self.line, part, LINE_BYTES) {
             Ok(()) => Ok(()),
-            Err(_) => Err(Halt::NoMemory),
+            Err(JoinFault::Long) => Err(Halt::Line(LINE_BYTES as u64)),
+            Err(JoinFault::NoMemory) => Err(Halt::NoMemory),
         }
     }
 
@@ -132,12 +130,12 @@ impl<C: Recorder> Reader<C> {
         ensures whole { OnOk result ((C.view self.new.feeder.core).is_whole ≡ true) }
     {
         let mut left = piece;
-        while let Some(end) = line_end(left) {
-            match self.take_rest(alloc, &left[..end], out) {
+        while let Some((line, behind)) = first_line(left) {
+            match self.take_rest(alloc, line, out) {
                 Ok(()) => {}
                 Err(halt) => return Err(halt),
             }
-            left = &left[end + 1..];
+            left = behind;
         }
         self.push_part(left)
     }
@@ -154,14 +152,4 @@ impl<C: Recorder> Reader<C> {
         }
         self.feeder.take_line(alloc, &self.line, out)
     }
-}
-
-// The place of the first line feed.
-fn line_end(bytes: &[u8]) -> Option<usize>
-    ensures within { IfSome result (λ end. end < length bytes.now) }
-    ensures feed { IfSome result (λ end. bytes.now ≡ take end bytes.now ++ 10 ∷ drop (end + 1) bytes.now) }
-    ensures line { IfSome result (λ end. list_any (λ b. b == 10) (take end bytes.now) ≡ false) }
-    ensures none { IfNone result (list_any (λ b. b == 10) bytes.now ≡ false) }
-{
-    memchr(b'\n', bytes)
 }

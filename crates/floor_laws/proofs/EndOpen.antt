@@ -80,7 +80,7 @@ module _ (f : ToolFloor) (b : Base f) (v : Commands (picture f)) where
         name_is f b n s (named_by c.task) w.0 known w.1 (sym (number_there f.places (named_by c.task) w.0 w.1) ∙ same)
 
     -- and the other way
-    number_told : (m : ℕ) (c : ToolCommand) (fetched : Bool) → module_at m f.modules ≡ Some (Busy c fetched) → named_by c.task ≡ s.sub → numbered (named_by c.task) f.places ≡ n
+    pub number_told : (m : ℕ) (c : ToolCommand) (fetched : Bool) → module_at m f.modules ≡ Some (Busy c fetched) → named_by c.task ≡ s.sub → numbered (named_by c.task) f.places ≡ n
     number_told m c fetched e same =
         let w = command_placed m c fetched e in
         number_there f.places (named_by c.task) w.0 w.1 ∙ number_is f b n s w.0 known (sym (ap (λ (t : List ℕ). substrate_named t f.places.held) same) ∙ w.1)

@@ -1,5 +1,5 @@
 -- The rows of a substrate keep what holds: those of transport, and those of processing that are not of an answer or of `lost`.
-use Rattle.std.proofs.Common.{◌≡◌, ℕ, Bool, true, false, not, ◌&&◌, ◌||◌, [], ◌∷◌, Option, Some, None, refl, sym, ◌∙◌, ap, subst, arith}
+use Rattle.std.proofs.Common.{◌≡◌, ℕ, Bool, true, false, not, ◌&&◌, ◌||◌, [], ◌∷◌, Option, Some, None, refl, sym, ◌∙◌, ap, subst}
 use Rattle.std.specs.List.{list_any}
 use Rattle.std.proofs.lemmas.Bool.{and_parts, not-true}
 use Rattle.gem_tables.specs.Table.{firing, after, is_one_of, is_among, may_fire, first_itself}
@@ -28,8 +28,7 @@ use Rattle.place_laws.specs.Sound.{Sound}
 use Rattle.picture_laws.proofs.Rows.{transport-keeps, processing_agrees}
 use Rattle.floor_laws.proofs.EndBase.{Leaves, changed_base}
 use Rattle.floor_laws.proofs.EndNames.{number_is, place_is}
-use Rattle.floor_laws.proofs.EndOpen.{busy_names, busy_processes, processes_busy}
-use Rattle.place_laws.proofs.Holding.{IsOne}
+use Rattle.floor_laws.proofs.EndOpen.{busy_names, busy_processes}
 
 -- a row of a substrate leaves what it is of
 pub moves_leaves : (table row : ℕ) → Leaves (substrate_moves table row)
@@ -67,13 +66,12 @@ module _ (f : ToolFloor) (n : ℕ) (sound : Sound f) (s : Substrate) (known : su
   goes_to row = ap (λ (p : Processing). processing_number (after processing_number processing_table row p)) needs
 
   -- row 2
-  begins : list_any (processes s.sub) f.modules ≡ true → Sound (with_moved 13 2 n f)
-  begins e =
+  begins : Sound (with_moved 13 2 n f)
+  begins =
       worked_sound f n 2 s 1 known (goes_to 2) (record {
         stays = λ t. absurd (let u = unfinished in cc);
         picked = λ m p k c i t. refl;
         processed = λ m c i t. refl;
-        in_process = λ one. processes_busy f sound.base sound.valid.commands n s known e;
       }) sound
 
   -- row 5
@@ -83,7 +81,6 @@ module _ (f : ToolFloor) (n : ℕ) (sound : Sound f) (s : Substrate) (known : su
         stays = λ t. refl;
         picked = λ m p k c i t. absurd (let b = busy_names f sound.base sound.valid.commands n s known m c i (ap named t) in cc);
         processed = λ m c i t. absurd (let b = busy_names f sound.base sound.valid.commands n s known m c i (ap named t) in cc);
-        in_process = λ one. let z : IsOne 7 = one in absurd (omega (arith, z));
       }) sound
 
   -- one that is outside has no place in a slot
@@ -100,13 +97,12 @@ module _ (f : ToolFloor) (n : ℕ) (sound : Sound f) (s : Substrate) (known : su
     of (Some r) q w = by r.at w (sym (place_is f sound.base s.sub r q) ∙ ap (place_in f.places) (number_is f sound.base n s r known q) ∙ at)
 
   -- rows 6 and 7
-  ends : (row state : ℕ) → processing_number (after processing_number processing_table row processing.NeedsProcessing) ≡ state → is_finished state ≡ true → (state ≡ 1 → ⊥) → is_outside s f.places ≡ true → list_any (processes s.sub) f.modules ≡ false → Sound (with_moved 13 row n f)
-  ends row state goes finished other out none =
+  ends : (row state : ℕ) → processing_number (after processing_number processing_table row processing.NeedsProcessing) ≡ state → is_finished state ≡ true → is_outside s f.places ≡ true → list_any (processes s.sub) f.modules ≡ false → Sound (with_moved 13 row n f)
+  ends row state goes finished out none =
       worked_sound f n row s state known (goes_to row ∙ goes) (record {
         stays = λ t. finished;
         picked = λ m p k c i t. absurd (not_in_slot out p k (sound.valid.commands.picks m n (slot p k) c i t).stands);
         processed = λ m c i t. absurd (let b = busy_processes f sound.base sound.valid.commands n s known m c i t in cc);
-        in_process = λ one. absurd (other one);
       }) sound
 
 -- Row 1 in any state; the others where they start: 6 and 7 where row 2, which is the lesser, doesn't.
@@ -123,7 +119,7 @@ processing_sound f n row starts one first sound =
     row_2 None q e = absurd (cc)
     row_2 (Some s) q e =
         let w = and_parts (is_among processing_number (processing.NeedsProcessing ∷ []) s.states.processing) (list_any (processes s.sub) f.modules) e in
-        begins f n sound s q (is_needing s.states.processing w.0) w.1
+        begins f n sound s q (is_needing s.states.processing w.0)
 
     row_5 : (o : Option Substrate) → substrate_numbered n f.substrates ≡ o → substrate_starts processing_number processing_table (λ s. s.processing) 5 o f ≡ true → Sound (with_moved 13 5 n f)
     row_5 None q e = absurd (cc)
@@ -145,7 +141,7 @@ processing_sound f n row starts one first sound =
         let w = and_parts (is_among processing_number (processing.NeedsProcessing ∷ []) s.states.processing) (is_outside s f.places && is_job_so is_stopping (job_of s f.jobs)) e in
         let u = and_parts (is_outside s f.places) (is_job_so is_stopping (job_of s f.jobs)) w.1 in
         let needs = is_needing s.states.processing w.0 in
-        ends f n sound s q needs 6 4 refl refl (λ one. let z : IsOne 4 = one in omega (arith, z)) u.0 (none_processes s q needs none)
+        ends f n sound s q needs 6 4 refl refl u.0 (none_processes s q needs none)
 
     row_7 : (o : Option Substrate) → substrate_numbered n f.substrates ≡ o → substrate_starts processing_number processing_table (λ s. s.processing) 7 o f ≡ true → floor_starts (firing 13 n 2) f ≡ false → Sound (with_moved 13 7 n f)
     row_7 None q e none = absurd (cc)
@@ -153,7 +149,7 @@ processing_sound f n row starts one first sound =
         let w = and_parts (is_among processing_number (processing.NeedsProcessing ∷ []) s.states.processing) (is_outside s f.places && is_job_so is_aborting (job_of s f.jobs)) e in
         let u = and_parts (is_outside s f.places) (is_job_so is_aborting (job_of s f.jobs)) w.1 in
         let needs = is_needing s.states.processing w.0 in
-        ends f n sound s q needs 7 3 refl refl (λ one. let z : IsOne 3 = one in omega (arith, z)) u.0 (none_processes s q needs none)
+        ends f n sound s q needs 7 3 refl refl u.0 (none_processes s q needs none)
 
 -- the row that is ready by itself at a substrate
 pub processing_ready_sound : (f : ToolFloor) (n row : ℕ) → processing_machine.ready n f ≡ Some row → Sound f → Sound (floor_fired (firing 13 n row) f)

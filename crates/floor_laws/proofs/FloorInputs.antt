@@ -14,13 +14,12 @@ use Rattle.floor_model.specs.Machines.{floor_starts, floor_fired}
 use Rattle.floor_model.specs.Modules.{is_transfer, is_align, is_process, move_starts, number_named}
 use Rattle.floor_model.specs.Signals.{at_module, done_row, at_processed, processed_rows, is_of_aborting, done_processing, at_done, done_processed, done_at, done_rows, closing_at, closing_rows, can_be_lost, lost_at, lost_rows}
 use Rattle.floor_model.specs.Views.{planned}
-use Rattle.floor_moves.specs.Floor.{process}
-use Rattle.place_laws.specs.Picture.{task_of}
-use Rattle.place_laws.specs.Sound.{Sound, SoundBut}
+use Rattle.floor_moves.specs.Valid.{IsUnnamed}
+use Rattle.place_laws.specs.Picture.{picture}
+use Rattle.place_laws.specs.Sound.{Sound}
 use Rattle.floor_laws.specs.Rows.{one_listed, listed}
-use Rattle.floor_laws.proofs.EndMoves.{pick_sound, place_sound, align_sound}
-use Rattle.floor_laws.proofs.EndAnswers.{down_not, turned_sound, process_but, other_closed}
-use Rattle.floor_laws.proofs.EndBut.{but_sound, but_left_sound}
+use Rattle.floor_laws.proofs.EndAnswers.{down_not, process_unnamed, module_row_sound}
+use Rattle.floor_laws.proofs.EndProcess.{finish_sound}
 use Rattle.floor_laws.proofs.EndLost.{lost_sound}
 use Rattle.floor_moves.proofs.Moving.{idle_not_busy}
 
@@ -59,8 +58,8 @@ module _ (m : ℕ) (f : ToolFloor) (c : Command) (fetched : Bool) (here : module
   down_starts = there 9 refl
 
 -- the row of a substrate behind a Process that ended
-but_listed : (n row : ℕ) (g : ToolFloor) → is_one_of (3 ∷ 4 ∷ []) row ≡ true → SoundBut n g → Sound (one_listed (firing 13 n row) g)
-but_listed n row g one but = listed_either Sound (firing 13 n row) g (λ starts. but_sound g n row one starts but) (λ left. but_left_sound g n row one left but)
+finish_listed : (n row : ℕ) (g : ToolFloor) → is_one_of (3 ∷ 4 ∷ []) row ≡ true → IsUnnamed n (picture g) → Sound g → Sound (one_listed (firing 13 n row) g)
+finish_listed n row g one unnamed sound = listed_either Sound (firing 13 n row) g (λ starts. finish_sound g n row one starts unnamed sound) (λ left. sound)
 
 -- it is 3 or 4
 pub done_one : (n : ℕ) (f : ToolFloor) → is_one_of (3 ∷ 4 ∷ []) (done_processing n f) ≡ true
@@ -73,49 +72,46 @@ done_one n f = of (is_of_aborting (substrate_numbered n f.substrates) f) where
 
 module _ (m : ℕ) (f : ToolFloor) (sound : Sound f) (c : Command) (fetched : Bool) (here : module_at m f.modules ≡ Some (Busy c fetched)) where
   -- the row of a task that is none of a Process
-  alone : (row : ℕ) → floor_starts (firing 16 m row) f ≡ true → Sound (floor_fired (firing 16 m row) f) → Sound (listed (firing 16 m row ∷ []) f)
-  alone row starts all = subst Sound (sym (listed_starts (firing 16 m row) f starts)) all
+  alone : (row : ℕ) → floor_starts (firing 16 m row) f ≡ true → is_one_of (5 ∷ 6 ∷ 7 ∷ 8 ∷ 9 ∷ 10 ∷ []) row ≡ true → Sound (listed (firing 16 m row ∷ []) f)
+  alone row starts one = subst Sound (sym (listed_starts (firing 16 m row) f starts)) (module_row_sound f m row starts one sound)
 
   -- a Process ended by one of rows 7 to 9, and the row of its substrate follows
-  followed : (row : ℕ) (n next : ℕ) → floor_starts (firing 16 m row) f ≡ true → is_one_of (3 ∷ 4 ∷ []) next ≡ true → SoundBut n (floor_fired (firing 16 m row) f) → Sound (listed (firing 16 m row ∷ firing 13 n next ∷ []) f)
-  followed row n next starts one but =
-      subst (λ (g : ToolFloor). Sound (one_listed (firing 13 n next) g)) (sym (listed_starts (firing 16 m row) f starts)) (but_listed n next (floor_fired (firing 16 m row) f) one but)
+  followed : (row n next : ℕ) → floor_starts (firing 16 m row) f ≡ true → is_one_of (5 ∷ 6 ∷ 7 ∷ 8 ∷ 9 ∷ 10 ∷ []) row ≡ true → is_one_of (3 ∷ 4 ∷ []) next ≡ true → IsUnnamed n (picture (floor_fired (firing 16 m row) f))
+      → Sound (listed (firing 16 m row ∷ firing 13 n next ∷ []) f)
+  followed row n next starts one ends unnamed =
+      subst (λ (g : ToolFloor). Sound (one_listed (firing 13 n next) g)) (sym (listed_starts (firing 16 m row) f starts))
+      (finish_listed n next (floor_fired (firing 16 m row) f) ends unnamed (module_row_sound f m row starts one sound))
 
   -- the rows of Done, by the task
   of_task : (t : Task) → c.task ≡ t → Sound (listed (at_module (done_row t) m ++ done_processed t f) f)
-  of_task (task.Pick sub from) q = alone 5 (done_starts m f c fetched here (task.Pick sub from) q) (pick_sound f sound m c fetched here sub from q)
-  of_task (task.Place sub to) q = alone 5 (done_starts m f c fetched here (task.Place sub to) q) (place_sound f sound m c fetched here sub to q)
-  of_task (task.Align sub) q = alone 6 (done_starts m f c fetched here (task.Align sub) q) (align_sound f sound m c fetched here sub q)
+  of_task (task.Pick sub from) q = alone 5 (done_starts m f c fetched here (task.Pick sub from) q) refl
+  of_task (task.Place sub to) q = alone 5 (done_starts m f c fetched here (task.Place sub to) q) refl
+  of_task (task.Align sub) q = alone 6 (done_starts m f c fetched here (task.Align sub) q) refl
   of_task (task.Process sub recipe) q =
-      let w = process_but f sound m 7 c fetched here _ idle_not_busy refl sub recipe q in
+      let w = process_unnamed f sound m 7 c fetched here _ idle_not_busy refl sub recipe q in
       subst (λ (o : Option ℕ). Sound (listed (firing 16 m 7 ∷ at_done o f) f)) (sym w.1)
-      (followed 7 w.0 (done_processing w.0 f) (done_starts m f c fetched here (task.Process sub recipe) q) (done_one w.0 f) w.2)
+      (followed 7 w.0 (done_processing w.0 f) (done_starts m f c fetched here (task.Process sub recipe) q) refl (done_one w.0 f) w.2)
 
   -- ---- Failed and Down
 
   -- the rows of a module that goes down, by the task that it had open
-  closed_task : (row : ℕ) → floor_starts (firing 16 m row) f ≡ true
-      → (((k : ℕ) → task_of c.task f.places ≡ process k → ⊥) → Sound (floor_fired (firing 16 m row) f))
-      → ((sub recipe : List ℕ) → c.task ≡ task.Process sub recipe → (n : ℕ) × (number_named sub f.places ≡ Some n) × SoundBut n (floor_fired (firing 16 m row) f))
+  closed_task : (row : ℕ) → floor_starts (firing 16 m row) f ≡ true → is_one_of (5 ∷ 6 ∷ 7 ∷ 8 ∷ 9 ∷ 10 ∷ []) row ≡ true
+      → ((sub recipe : List ℕ) → c.task ≡ task.Process sub recipe → (n : ℕ) × (number_named sub f.places ≡ Some n) × IsUnnamed n (picture (floor_fired (firing 16 m row) f)))
       → (t : Task) → c.task ≡ t → Sound (listed (at_module row m ++ processed_rows 4 t f) f)
-  closed_task row starts other but (task.Pick sub from) q = alone row starts (other (λ k u. let t = ap (λ (x : Task). task_of x f.places) q in cc))
-  closed_task row starts other but (task.Place sub to) q = alone row starts (other (λ k u. let t = ap (λ (x : Task). task_of x f.places) q in cc))
-  closed_task row starts other but (task.Align sub) q = alone row starts (other (λ k u. let t = ap (λ (x : Task). task_of x f.places) q in cc))
-  closed_task row starts other but (task.Process sub recipe) q =
-      let w = but sub recipe q in
-      subst (λ (o : Option ℕ). Sound (listed (firing 16 m row ∷ at_processed 4 o) f)) (sym w.1) (followed row w.0 4 starts refl w.2)
+  closed_task row starts one unnamed (task.Pick sub from) q = alone row starts one
+  closed_task row starts one unnamed (task.Place sub to) q = alone row starts one
+  closed_task row starts one unnamed (task.Align sub) q = alone row starts one
+  closed_task row starts one unnamed (task.Process sub recipe) q =
+      let w = unnamed sub recipe q in
+      subst (λ (o : Option ℕ). Sound (listed (firing 16 m row ∷ at_processed 4 o) f)) (sym w.1) (followed row w.0 4 starts one refl w.2)
 
   -- those of Failed
   failed_task : Sound (listed (at_module 8 m ++ processed_rows 4 c.task f) f)
-  failed_task =
-      closed_task 8 (failed_starts m f c fetched here) (other_closed f sound m 8 c fetched here _ down_not refl)
-      (process_but f sound m 8 c fetched here _ down_not refl) c.task refl
+  failed_task = closed_task 8 (failed_starts m f c fetched here) refl (process_unnamed f sound m 8 c fetched here _ down_not refl) c.task refl
 
   -- those of Down
   down_task : Sound (listed (at_module 9 m ++ processed_rows 4 c.task f) f)
-  down_task =
-      closed_task 9 (down_starts m f c fetched here) (other_closed f sound m 9 c fetched here _ down_not refl)
-      (process_but f sound m 9 c fetched here _ down_not refl) c.task refl
+  down_task = closed_task 9 (down_starts m f c fetched here) refl (process_unnamed f sound m 9 c fetched here _ down_not refl) c.task refl
 
 -- ---- by what the module is
 
@@ -143,7 +139,7 @@ down_sound number f up sound = of (module_at number f.modules) refl up where
   -- it had nothing open
   idle : module_at number f.modules ≡ Some Idle → Sound (listed (firing 16 number 9 ∷ []) f)
   idle here =
-      listed_either Sound (firing 16 number 9) f (λ starts. turned_sound f sound number 9 Idle here _ down_not refl (λ k d u t. idle_not_busy d u)) (λ left. sound)
+      listed_either Sound (firing 16 number 9) f (λ starts. module_row_sound f number 9 starts refl sound) (λ left. sound)
 
   of : (o : Option Module) → module_at number f.modules ≡ o → is_up o ≡ true → Sound (listed (closing_at 9 number o f) f)
   of None here e = absurd (cc)

@@ -24,14 +24,14 @@ use Rattle.floor_model.specs.Views.{planned}
 use Rattle.floor_model.proofs.Tables.{least_floor}
 use Rattle.floor_moves.specs.Floor.{arm}
 use Rattle.floor_moves.specs.OnePlace.{OnePlace}
-use Rattle.floor_moves.proofs.Promised.{one_place, one_place_between}
+use Rattle.floor_moves.proofs.Promised.{one_place}
 use Rattle.place_laws.specs.Picture.{picture, loc_of, place_in}
-use Rattle.place_laws.specs.Sound.{Sound, SoundBut}
+use Rattle.place_laws.specs.Sound.{Sound}
 use Rattle.floor_laws.specs.Rows.{one_listed, listed}
 use Rattle.floor_laws.specs.Moves.{Picked, Placed, DoneAt, LostAt}
 use Rattle.floor_laws.proofs.FloorInputs.{listed_either, listed_starts, done_starts, failed_starts, down_starts}
 use Rattle.floor_laws.proofs.ShopTables.{transfer_valid}
-use Rattle.floor_laws.proofs.EndAnswers.{SoundOrBut, module_row_sound}
+use Rattle.floor_laws.proofs.EndAnswers.{module_row_sound}
 use Rattle.floor_laws.proofs.GrowRows.{move_same, processing_same}
 use Rattle.floor_laws.proofs.GrowTransfer.{Transfers, pick_places, place_places}
 use Rattle.floor_laws.proofs.OpenCommands.{Opens, opens_same, opens_then, IsShut, shut_stays, open_given}
@@ -205,19 +205,13 @@ module _ (m : ℕ) (f : ToolFloor) (sound : Sound f) (c : Command) (fetched : Bo
 
 -- ---- what follows from what holds
 
--- each substrate has one place, also between two direct rows
+-- each substrate has one place
 pub one_place_sound : (f : ToolFloor) → Sound f → OnePlace (picture f)
 one_place_sound f sound = one_place (picture f) sound.valid
 
-pub one_place_but : (n : ℕ) (f : ToolFloor) → SoundBut n f → OnePlace (picture f)
-one_place_but n f but = one_place_between (picture f) n but.valid
-
 -- behind the row of a module that an input fires, before another follows
 pub one_place_behind : (f : ToolFloor) (m row : ℕ) → floor_starts (firing 16 m row) f ≡ true → is_one_of (5 ∷ 6 ∷ 7 ∷ 8 ∷ 9 ∷ 10 ∷ []) row ≡ true → Sound f → OnePlace (picture (floor_fired (firing 16 m row) f))
-one_place_behind f m row starts one sound = of (module_row_sound f m row starts one sound) where
-  of : SoundOrBut f m (floor_fired (firing 16 m row) f) → OnePlace (picture (floor_fired (firing 16 m row) f))
-  of (inl all) = one_place_sound (floor_fired (firing 16 m row) f) all
-  of (inr w) = one_place_but w.0 (floor_fired (firing 16 m row) f) w.2
+one_place_behind f m row starts one sound = one_place_sound (floor_fired (firing 16 m row) f) (module_row_sound f m row starts one sound)
 
 -- behind the first row of a removal
 pub one_place_vacated : (port : ℕ) (f : ToolFloor) → floor_starts (firing 4 port 5) f ≡ true → Sound f → OnePlace (picture (floor_fired (firing 4 port 5) f))

@@ -6,7 +6,7 @@ use Rattle.std.proofs.lemmas.List.{length-replicate}
 use Rattle.gem_tables.specs.Table.{firing, is_one_of}
 use Rattle.gem_tables.specs.declared.firing.Firing.{Firing}
 use Rattle.gem_tables.proofs.Rows.{ready_row, one_of_cases}
-use Rattle.gem_tables.proofs.Machines.{starts_cases, least_cases}
+use Rattle.floor_model.proofs.EachTable.{starts_cases, least_cases}
 use Rattle.load_port.specs.Ports.{first_ports, most_ports}
 use Rattle.load_port.specs.Tables.{transfer_number, transfer_table, association_number, association_table}
 use Rattle.carrier.specs.declared.carrier.Carrier.{Carrier}
@@ -22,10 +22,10 @@ use Rattle.robot_moves.specs.Modules.{module_at, state_of}
 use Rattle.tool_tasks.specs.declared.recipes.Recipe.{Recipe}
 use Rattle.floor_model.specs.Floor.{ToolFloor, opening}
 use Rattle.floor_model.specs.Views.{planned}
-use Rattle.floor_model.specs.Modules.{move_wants, move_starts, move_ready}
+use Rattle.floor_model.specs.Modules.{move_wants, move_ready}
 use Rattle.floor_model.specs.Substrates.{reaches_verified}
 use Rattle.floor_model.specs.Wants.{accessing_wants}
-use Rattle.floor_model.specs.Machines.{accessing_ready, floor_machines, floor_starts, floor_fired, floor_least}
+use Rattle.floor_model.specs.Machines.{accessing_ready, floor_starts, floor_fired, floor_least}
 use Rattle.floor_model.proofs.Keeping.{least_starts}
 use Rattle.place_laws.specs.Sound.{Base, Sound}
 use Rattle.place_laws.proofs.PortTransfers.{opening-at-ports}
@@ -35,7 +35,7 @@ use Rattle.floor_laws.specs.Rows.{is_common}
 use Rattle.floor_laws.proofs.ShopTables.{shop_row_sound}
 use Rattle.floor_laws.proofs.RegVerified.{slot_sound}
 use Rattle.floor_laws.proofs.EndRows.{transport_sound, processing_sound, processing_ready_sound}
-use Rattle.floor_laws.proofs.EndAnswers.{SoundOrBut, module_row_sound}
+use Rattle.floor_laws.proofs.EndAnswers.{module_row_sound}
 use Rattle.floor_laws.proofs.JobProcess.{process_sound}
 use Rattle.floor_laws.proofs.JobCreated.{control_sound}
 use Rattle.floor_laws.proofs.IssueSound.{issue_sound}
@@ -64,11 +64,6 @@ module _ (f : ToolFloor) (sound : Sound f) where
       )
       one starts
 
-  -- row 10 of table 16: a module that is Down has nothing open
-  comes_up : (m : ℕ) → floor_starts (firing 16 m 10) f ≡ true → SoundOrBut f m (floor_fired (firing 16 m 10) f) → Sound (floor_fired (firing 16 m 10) f)
-  comes_up m starts (inl all) = all
-  comes_up m starts (inr w) = not_itself (sym (ap (move_starts 10 (planned m f)) w.1.at) ∙ starts)
-
   -- rows 1 to 4 and 10 of table 16
   moves : (m row : ℕ) → floor_starts (firing 16 m row) f ≡ true → is_one_of (1 ∷ 2 ∷ 3 ∷ 4 ∷ 10 ∷ []) row ≡ true → Sound (floor_fired (firing 16 m row) f)
   moves m row starts one =
@@ -76,7 +71,7 @@ module _ (f : ToolFloor) (sound : Sound f) where
         (λ st. issue_sound f m 1 refl st sound),
         (
           (λ st. issue_sound f m 2 refl st sound),
-          ((λ st. issue_sound f m 3 refl st sound), ((λ st. issue_sound f m 4 refl st sound), ((λ st. comes_up m st (module_row_sound f m 10 st refl sound)), tt))),
+          ((λ st. issue_sound f m 3 refl st sound), ((λ st. issue_sound f m 4 refl st sound), ((λ st. module_row_sound f m 10 st refl sound), tt))),
         ),
       )
       one starts
@@ -84,38 +79,21 @@ module _ (f : ToolFloor) (sound : Sound f) where
 -- such a row keeps what holds; those of tables 1 to 3 are none of the floor, and don't start there
 pub row_sound : (x : Firing) (f : ToolFloor) → floor_starts x f ≡ true → is_common x ≡ true → Sound f → Sound (floor_fired x f)
 row_sound x f starts common sound =
-    starts_cases (λ (y : Firing). is_common y ≡ true → Sound (floor_fired y f)) f x floor_machines (
-      (λ s kind. shop_row_sound (firing 4 x.object x.row.row) f s kind sound),
-      (
-        (λ s kind. shop_row_sound (firing 5 x.object x.row.row) f s refl sound),
-        (
-          (λ s kind. shop_row_sound (firing 6 x.object x.row.row) f s refl sound),
-          (
-            (λ s kind. shop_row_sound (firing 7 x.object x.row.row) f s kind sound),
-            (
-              (λ s kind. shop_row_sound (firing 8 x.object x.row.row) f s refl sound),
-              (
-                (λ s kind. slots f sound x.object x.row.row s),
-                (
-                  (λ s kind. shop_row_sound (firing 10 x.object x.row.row) f s (sym (or-false (not (x.row.row == 4))) ∙ kind) sound),
-                  (
-                    (λ s kind. shop_row_sound (firing 11 x.object x.row.row) f s refl sound),
-                    (
-                      (λ s kind. transport_sound f x.object x.row.row sound),
-                      (
-                        (λ s kind. processing f sound x.object x.row.row s (sym (or-false (is_one_of (1 ∷ 2 ∷ 5 ∷ []) x.row.row)) ∙ kind)),
-                        ((λ s kind. process_sound f x.object x.row.row s sound), ((λ s kind. control_sound f x.object x.row.row sound), ((λ s kind. moves f sound x.object x.row.row s kind), tt))),
-                      ),
-                    ),
-                  ),
-                ),
-              ),
-            ),
-          ),
-        ),
-      ),
-    )
-    starts common
+    starts_cases (λ (y : Firing). is_common y ≡ true → Sound (floor_fired y f)) f x (record {
+      transfer = λ s kind. shop_row_sound (firing 4 x.object x.row.row) f s kind sound;
+      access = λ s kind. shop_row_sound (firing 5 x.object x.row.row) f s refl sound;
+      reservation = λ s kind. shop_row_sound (firing 6 x.object x.row.row) f s refl sound;
+      association = λ s kind. shop_row_sound (firing 7 x.object x.row.row) f s kind sound;
+      id = λ s kind. shop_row_sound (firing 8 x.object x.row.row) f s refl sound;
+      map = λ s kind. slots f sound x.object x.row.row s;
+      accessing = λ s kind. shop_row_sound (firing 10 x.object x.row.row) f s (sym (or-false (not (x.row.row == 4))) ∙ kind) sound;
+      location = λ s kind. shop_row_sound (firing 11 x.object x.row.row) f s refl sound;
+      transport = λ s kind. transport_sound f x.object x.row.row sound;
+      processing = λ s kind. processing f sound x.object x.row.row s (sym (or-false (is_one_of (1 ∷ 2 ∷ 5 ∷ []) x.row.row)) ∙ kind);
+      process_job = λ s kind. process_sound f x.object x.row.row s sound;
+      control_job = λ s kind. control_sound f x.object x.row.row sound;
+      move = λ s kind. moves f sound x.object x.row.row s kind;
+    }) starts common
 
 -- ---- rows that are ready by themselves
 
@@ -143,34 +121,21 @@ module _ (f : ToolFloor) (sound : Sound f) where
   -- so is the least that is ready
   kind : (x : Firing) → floor_least f ≡ Some x → Keeps x
   kind x e =
-      least_cases Keeps f x floor_machines (
-        (λ o r s. inl (ready_at_port transfer_number transfer_table (λ s. s.transfer) (λ to s. record s { transfer = to }) (Common 4) f.shop o r (λ place p at. ((λ i a w. not_itself i), ((λ i a w. not_itself i), ((λ i a w. not_itself i), ((λ i a w. refl), ((λ i a w. not_itself i), tt)))))) s)),
-        (
-          (λ o r s. inl refl),
-          (
-            (λ o r s. inl refl),
-            (
-              (λ o r s. inl (ready_at_port association_number association_table (λ s. s.association) (λ to s. record s { association = to }) (Common 7) f.shop o r (λ place p at. ((λ i a w. not_itself i), ((λ i a w. not_itself i), ((λ i a w. refl), ((λ i a w. refl), ((λ i a w. refl), ((λ i a w. not_itself i), ((λ i a w. refl), tt)))))))) s)),
-              (
-                (λ o r s. inl refl),
-                (
-                  (λ o r s. inl refl),
-                  (
-                    (λ o r s. inl (accessing o r (carrier_numbered o f.shop.carriers) s)),
-                    (
-                      (λ o r s. inl refl),
-                      (
-                        (λ o r s. inl refl),
-                        ((λ o r s. inr (processing_ready_sound f o r s sound)), ((λ o r s. inl refl), ((λ o r s. inl refl), ((λ o r s. inl (commands o r (planned o f) (module_at o f.modules) s)), tt)))),
-                      ),
-                    ),
-                  ),
-                ),
-              ),
-            ),
-          ),
-        ),
-      ) e
+      least_cases Keeps f x (record {
+        transfer = λ o r s. inl (ready_at_port transfer_number transfer_table (λ s. s.transfer) (λ to s. record s { transfer = to }) (Common 4) f.shop o r (λ place p at. ((λ i a w. not_itself i), ((λ i a w. not_itself i), ((λ i a w. not_itself i), ((λ i a w. refl), ((λ i a w. not_itself i), tt)))))) s);
+        access = λ o r s. inl refl;
+        reservation = λ o r s. inl refl;
+        association = λ o r s. inl (ready_at_port association_number association_table (λ s. s.association) (λ to s. record s { association = to }) (Common 7) f.shop o r (λ place p at. ((λ i a w. not_itself i), ((λ i a w. not_itself i), ((λ i a w. refl), ((λ i a w. refl), ((λ i a w. refl), ((λ i a w. not_itself i), ((λ i a w. refl), tt)))))))) s);
+        id = λ o r s. inl refl;
+        map = λ o r s. inl refl;
+        accessing = λ o r s. inl (accessing o r (carrier_numbered o f.shop.carriers) s);
+        location = λ o r s. inl refl;
+        transport = λ o r s. inl refl;
+        processing = λ o r s. inr (processing_ready_sound f o r s sound);
+        process_job = λ o r s. inl refl;
+        control_job = λ o r s. inl refl;
+        move = λ o r s. inl (commands o r (planned o f) (module_at o f.modules) s);
+      }) e
 
 -- the least that is ready keeps what holds
 pub least_sound : (x : Firing) (f : ToolFloor) → floor_least f ≡ Some x → Sound f → Sound (floor_fired x f)

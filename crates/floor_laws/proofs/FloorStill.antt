@@ -4,7 +4,7 @@ use Rattle.std.proofs.lemmas.Bool.Decides.{Decides-eqb}
 use Rattle.gem_tables.specs.Table.{firing}
 use Rattle.gem_tables.specs.declared.firing.Firing.{Firing}
 use Rattle.gem_tables.proofs.Rows.{ready_row}
-use Rattle.gem_tables.proofs.Machines.{least_cases}
+use Rattle.floor_model.proofs.EachTable.{least_cases}
 use Rattle.load_port.specs.Tables.{association_number, association_table}
 use Rattle.shop_floor.proofs.Cases.{ready_at_port}
 use Rattle.robot_moves.specs.declared.module.Module.{Module}
@@ -17,7 +17,7 @@ use Rattle.floor_model.specs.Floor.{ToolFloor, substrate_numbered}
 use Rattle.floor_model.specs.Views.{planned}
 use Rattle.floor_model.specs.Modules.{move_wants, move_ready}
 use Rattle.floor_model.specs.Wants.{substrate_wants}
-use Rattle.floor_model.specs.Machines.{substrate_ready, floor_machines, floor_least}
+use Rattle.floor_model.specs.Machines.{substrate_ready, floor_least}
 use Rattle.floor_laws.specs.Rows.{is_common}
 use Rattle.floor_laws.proofs.GrowRows.{moves_nothing}
 
@@ -43,34 +43,21 @@ module _ (f : ToolFloor) where
 
   pub least_still : (x : Firing) → floor_least f ≡ Some x → moves_nothing x ≡ true
   least_still x e =
-      least_cases (λ (y : Firing). moves_nothing y ≡ true) f x floor_machines (
-        (λ o r s. refl),
-        (
-          (λ o r s. refl),
-          (
-            (λ o r s. refl),
-            (
-              (λ o r s. ready_at_port association_number association_table (λ s. s.association) (λ to s. record s { association = to }) (Still 7) f.shop o r (λ place p at. ((λ i a w. refl), ((λ i a w. refl), ((λ i a w. refl), ((λ i a w. refl), ((λ i a w. refl), ((λ i a w. not_itself i), ((λ i a w. refl), tt)))))))) s),
-              (
-                (λ o r s. refl),
-                (
-                  (λ o r s. refl),
-                  (
-                    (λ o r s. refl),
-                    (
-                      (λ o r s. refl),
-                      (
-                        (λ o r s. refl),
-                        ((λ o r s. processing o r (substrate_numbered o f.substrates) s), ((λ o r s. refl), ((λ o r s. refl), ((λ o r s. moves o r (planned o f) (module_at o f.modules) s), tt)))),
-                      ),
-                    ),
-                  ),
-                ),
-              ),
-            ),
-          ),
-        ),
-      ) e
+      least_cases (λ (y : Firing). moves_nothing y ≡ true) f x (record {
+        transfer = λ o r s. refl;
+        access = λ o r s. refl;
+        reservation = λ o r s. refl;
+        association = λ o r s. ready_at_port association_number association_table (λ s. s.association) (λ to s. record s { association = to }) (Still 7) f.shop o r (λ place p at. ((λ i a w. refl), ((λ i a w. refl), ((λ i a w. refl), ((λ i a w. refl), ((λ i a w. refl), ((λ i a w. not_itself i), ((λ i a w. refl), tt)))))))) s;
+        id = λ o r s. refl;
+        map = λ o r s. refl;
+        accessing = λ o r s. refl;
+        location = λ o r s. refl;
+        transport = λ o r s. refl;
+        processing = λ o r s. processing o r (substrate_numbered o f.substrates) s;
+        process_job = λ o r s. refl;
+        control_job = λ o r s. refl;
+        move = λ o r s. moves o r (planned o f) (module_at o f.modules) s;
+      }) e
 
 -- none of those that inputs fire alone is one that moves
 pub common_still : (x : Firing) → is_common x ≡ true → moves_nothing x ≡ true

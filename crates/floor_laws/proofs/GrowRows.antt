@@ -2,7 +2,7 @@
 use Rattle.std.proofs.Common.{◌≡◌, ℕ, ◌==◌, Bool, true, false, not, ◌&&◌, ◌||◌, if◌then◌else◌, Option, Some, None, refl, ◌∙◌, ap}
 use Rattle.gem_tables.specs.Table.{firing, row_of}
 use Rattle.gem_tables.specs.declared.firing.Firing.{Firing}
-use Rattle.gem_tables.proofs.Machines.{starts_cases}
+use Rattle.floor_model.proofs.EachTable.{starts_cases}
 use Rattle.gem_tables.proofs.Rows.{found_row}
 use Rattle.tool_tasks.specs.declared.task.Task.{Task}
 use Rattle.tool_tasks.specs.declared.task.Task.TheVariants as task
@@ -22,7 +22,7 @@ use Rattle.floor_model.specs.declared.tracked.Substrate.{Substrate}
 use Rattle.floor_model.specs.Floor.{ToolFloor, with_shop, substrate_numbered}
 use Rattle.floor_model.specs.Jobs.{job_does, found_job_does, frees, stops_carriers, gets_members}
 use Rattle.floor_model.specs.Modules.{issued, open_task, aligned_by, move_does, found_move}
-use Rattle.floor_model.specs.Machines.{floor_machines, floor_starts, floor_fired}
+use Rattle.floor_model.specs.Machines.{floor_starts, floor_fired}
 use Rattle.floor_model.specs.Substrates.{reaches_verified, registers_found, without_carrier, substrate_does, found_does}
 use Rattle.floor_model.specs.Views.{planned}
 use Rattle.place_laws.specs.Sound.{Base}
@@ -109,38 +109,21 @@ module _ (May : ℕ → Type 0) where
 
   pub row_grows : (x : Firing) (f : ToolFloor) → floor_starts x f ≡ true → moves_nothing x ≡ true → Base f → Grown May f (floor_fired x f)
   row_grows x f starts still b =
-      starts_cases (λ (y : Firing). moves_nothing y ≡ true → Grown May f (floor_fired y f)) f x floor_machines (
-        (λ s kind. grown_same May f _ refl),
-        (
-          (λ s kind. grown_same May f _ refl),
-          (
-            (λ s kind. grown_same May f _ refl),
-            (
-              (λ s kind. grown_same May f _ (association_same x.row.row x.object (shop.floor_fired (firing 7 x.object x.row.row) f.shop) f (first (x.row.row == 6) kind))),
-              (
-                (λ s kind. grown_same May f _ refl),
-                (
-                  (λ s kind. slot_row x.object x.row.row f b),
-                  (
-                    (λ s kind. grown_same May f _ refl),
-                    (
-                      (λ s kind. grown_same May f _ refl),
-                      (
-                        (λ s kind. grown_same May f _ refl),
-                        (
-                          (λ s kind. grown_same May f _ (processing_same x.row.row (substrate_numbered x.object f.substrates) f (first (x.row.row == 8) kind))),
-                          ((λ s kind. grown_same May f _ (job_same _ _ f)), ((λ s kind. grown_same May f _ refl), ((λ s kind. grown_same May f _ (move_same x.row.row x.object (planned x.object f) f (not-true (x.row.row == 5) kind))), tt))),
-                        ),
-                      ),
-                    ),
-                  ),
-                ),
-              ),
-            ),
-          ),
-        ),
-      )
-      starts still where
+      starts_cases (λ (y : Firing). moves_nothing y ≡ true → Grown May f (floor_fired y f)) f x (record {
+        transfer = λ s kind. grown_same May f _ refl;
+        access = λ s kind. grown_same May f _ refl;
+        reservation = λ s kind. grown_same May f _ refl;
+        association = λ s kind. grown_same May f _ (association_same x.row.row x.object (shop.floor_fired (firing 7 x.object x.row.row) f.shop) f (first (x.row.row == 6) kind));
+        id = λ s kind. grown_same May f _ refl;
+        map = λ s kind. slot_row x.object x.row.row f b;
+        accessing = λ s kind. grown_same May f _ refl;
+        location = λ s kind. grown_same May f _ refl;
+        transport = λ s kind. grown_same May f _ refl;
+        processing = λ s kind. grown_same May f _ (processing_same x.row.row (substrate_numbered x.object f.substrates) f (first (x.row.row == 8) kind));
+        process_job = λ s kind. grown_same May f _ (job_same _ _ f);
+        control_job = λ s kind. grown_same May f _ refl;
+        move = λ s kind. grown_same May f _ (move_same x.row.row x.object (planned x.object f) f (not-true (x.row.row == 5) kind));
+      }) starts still where
         first : (t : Bool) → not (t || false) ≡ true → t ≡ false
         first true e = absurd (cc)
         first false e = refl

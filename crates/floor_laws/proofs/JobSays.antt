@@ -1,5 +1,5 @@
 -- What holds goes on where the process jobs, the jobs of substrates and the marks of carriers change.
-use Rattle.std.proofs.Common.{◌≡◌, ◌≤◌, ℕ, Bool, true, false, ◌||◌, if◌then◌else◌, List, [], ◌∷◌, map, find, Option, Some, None, option_map, refl, sym, ◌∙◌, ap, subst, arith}
+use Rattle.std.proofs.Common.{◌≡◌, ◌≤◌, ℕ, Bool, true, false, ◌||◌, if◌then◌else◌, List, [], ◌∷◌, map, find, Option, Some, None, option_map, refl, sym, ◌∙◌, ap, subst}
 use Rattle.std.specs.List.{list_any}
 use Rattle.std.proofs.lemmas.Bool.{true≢false, or_left, or_right}
 use Rattle.tool_tasks.specs.declared.recipes.Recipe.{Recipe}
@@ -25,10 +25,9 @@ use Rattle.floor_moves.proofs.Carrying.{jobs_say-keeps}
 use Rattle.floor_moves.proofs.Facts.{outside_not_done, picked_not_done}
 use Rattle.place_laws.specs.Picture.{picture, of_one, of_job, is_complete, chambers_in, job_view, port_in, slot_in, where_present}
 use Rattle.place_laws.specs.Sound.{IsOfJob, IsInItsJob, JobsSound, Base, Sound}
-use Rattle.place_laws.proofs.Holding.{found_among, true_of_found, IsOne}
+use Rattle.place_laws.proofs.Holding.{found_among, true_of_found}
 use Rattle.place_laws.proofs.Leaving.{Leaves}
 use Rattle.place_laws.proofs.Stays.{stay-carried}
-use Rattle.picture_laws.proofs.Columns.{unknown_none}
 use Rattle.picture_laws.proofs.JobViews.{alike_same}
 use Rattle.floor_laws.proofs.UnloadMarked.{all_marked-unloading}
 use Rattle.floor_laws.proofs.JobSight.{some_same, none_some}
@@ -104,7 +103,6 @@ module _ (f : ToolFloor) (ms : List Material) (change : Substrate → Substrate)
     slot_of = λ n _. says_map change alone 0 (λ (s : Substrate). slot_in s.slot) (λ s. ap (λ (x : Substrate). slot_in x.slot) (alone s)) n f.substrates;
     place_of = λ n. refl;
     processing = λ n _. processing_same n;
-    unknown = λ n e one. let z : IsOne 0 = sym (ap (of_one 0 (λ (s : Substrate). processing_number s.states.processing)) (unknown_none n f.substrates e)) ∙ sym (processing_same n) ∙ one in omega (arith, z);
     is_aligned = λ n _. says_map change alone false (λ (s : Substrate). s.aligned) (λ s. ap (λ (x : Substrate). x.aligned) (alone s)) n f.substrates;
     carriers = marked_numbers ms f.shop;
     present_at = λ c. marked_says None where_present (λ x. refl) ms f.shop c;

@@ -41,7 +41,7 @@ pub mod EndLost
 pub mod EndPlaces
 pub mod EndMoves
 pub mod EndAnswers
-pub mod EndBut
+pub mod EndProcess
 pub mod RegFound
 pub mod RegNames
 pub mod RegMore

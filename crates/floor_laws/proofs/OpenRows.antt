@@ -2,7 +2,7 @@
 use Rattle.std.proofs.Common.{◌≡◌, ◌⊎◌, ◌<◌, ℕ, zero, suc, ◌+◌, ◌==◌, Bool, true, false, if◌then◌else◌, List, [], ◌∷◌, ◌++◌, Option, Some, None, inl, inr, refl, ◌∙◌, ap, arith}
 use Rattle.gem_tables.specs.Table.{firing, row_of, after}
 use Rattle.gem_tables.specs.declared.firing.Firing.{Firing}
-use Rattle.gem_tables.proofs.Machines.{starts_cases}
+use Rattle.floor_model.proofs.EachTable.{starts_cases}
 use Rattle.gem_ids.specs.declared.numbers.LocId.{LocId}
 use Rattle.gem_ids.specs.declared.numbers.LocId.TheVariants.{Slot}
 use Rattle.gem_ids.specs.declared.numbers.PortNo.{PortNo}
@@ -32,7 +32,7 @@ use Rattle.floor_model.specs.declared.tracked.Substrate.{Substrate}
 use Rattle.floor_model.specs.Floor.{ToolFloor, with_module}
 use Rattle.floor_model.specs.Jobs.{job_does, found_job_does, frees, stops_carriers, gets_members}
 use Rattle.floor_model.specs.Modules.{in_state, module_behind, command, issued, open_task, aligned_by, move_does, found_move}
-use Rattle.floor_model.specs.Machines.{floor_machines, floor_starts, floor_fired, taken_along, registered_by, moved_by}
+use Rattle.floor_model.specs.Machines.{floor_starts, floor_fired, taken_along, registered_by, moved_by}
 use Rattle.floor_model.specs.Substrates.{can_register, first_substrate, registers_at, registers_slot, registers_slots, registers_at_port, registers_found, reaches_verified, without_carrier, substrate_does, found_does}
 use Rattle.floor_model.specs.Views.{planned}
 use Rattle.floor_laws.proofs.OpenCommands.{Opens, opens_same, opens_then, change_opens}
@@ -180,35 +180,18 @@ moved_opens row m f =
 
 pub row_opens : (x : Firing) (f : ToolFloor) → floor_starts x f ≡ true → Opens f (floor_fired x f)
 row_opens x f starts =
-    starts_cases (λ (y : Firing). Opens f (floor_fired y f)) f x floor_machines (
-      (λ s. opens_same f _ refl refl),
-      (
-        (λ s. opens_same f _ refl refl),
-        (
-          (λ s. opens_same f _ refl refl),
-          (
-            (λ s. (let q = along_quiet x.row.row x.object f in opens_same f (floor_fired (firing 7 x.object x.row.row) f) q.modules q.commands)),
-            (
-              (λ s. opens_same f _ refl refl),
-              (
-                (λ s. (let q = by_quiet x.row.row x.object f in opens_same f (floor_fired (firing 9 x.object x.row.row) f) q.modules q.commands)),
-                (
-                  (λ s. opens_same f _ refl refl),
-                  (
-                    (λ s. opens_same f _ refl refl),
-                    (
-                      (λ s. opens_same f _ refl refl),
-                      (
-                        (λ s. (let q = does_quiet _ _ f in opens_same f (floor_fired (firing 13 x.object x.row.row) f) q.modules q.commands)),
-                        ((λ s. (let q = job_quiet _ _ f in opens_same f (floor_fired (firing 14 x.object x.row.row) f) q.modules q.commands)), ((λ s. opens_same f _ refl refl), ((λ s. moved_opens x.row.row x.object f), tt))),
-                      ),
-                    ),
-                  ),
-                ),
-              ),
-            ),
-          ),
-        ),
-      ),
-    )
-    starts
+    starts_cases (λ (y : Firing). Opens f (floor_fired y f)) f x (record {
+      transfer = λ s. opens_same f _ refl refl;
+      access = λ s. opens_same f _ refl refl;
+      reservation = λ s. opens_same f _ refl refl;
+      association = λ s. (let q = along_quiet x.row.row x.object f in opens_same f (floor_fired (firing 7 x.object x.row.row) f) q.modules q.commands);
+      id = λ s. opens_same f _ refl refl;
+      map = λ s. (let q = by_quiet x.row.row x.object f in opens_same f (floor_fired (firing 9 x.object x.row.row) f) q.modules q.commands);
+      accessing = λ s. opens_same f _ refl refl;
+      location = λ s. opens_same f _ refl refl;
+      transport = λ s. opens_same f _ refl refl;
+      processing = λ s. (let q = does_quiet _ _ f in opens_same f (floor_fired (firing 13 x.object x.row.row) f) q.modules q.commands);
+      process_job = λ s. (let q = job_quiet _ _ f in opens_same f (floor_fired (firing 14 x.object x.row.row) f) q.modules q.commands);
+      control_job = λ s. opens_same f _ refl refl;
+      move = λ s. moved_opens x.row.row x.object f;
+    }) starts

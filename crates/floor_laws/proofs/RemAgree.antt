@@ -1,5 +1,5 @@
 -- A carrier that is taken away, with its substrates, is forgotten in the floor by numbers.
-use Rattle.std.proofs.Common.{◌≡◌, ℕ, ◌+◌, ◌==◌, Bool, true, false, not, ◌&&◌, if◌then◌else◌, List, [], filter, find, map, Option, Some, None, option_map, refl, sym, ◌∙◌, ap, subst, arith}
+use Rattle.std.proofs.Common.{◌≡◌, ℕ, ◌+◌, ◌==◌, Bool, true, false, not, ◌&&◌, if◌then◌else◌, List, [], filter, find, map, Option, Some, None, option_map, refl, sym, ◌∙◌, ap, subst}
 use Rattle.std.specs.List.{AllByRecursion, list_any}
 use Rattle.std.proofs.lemmas.Bool.{and_parts, false_from_ne_true, not-true}
 use Rattle.std.proofs.lemmas.Bool.Decides.{Decides-eqb}
@@ -14,7 +14,6 @@ use Rattle.process_job.specs.Jobs.{recipe_named}
 use Rattle.process_job.specs.declared.job.ProcessJob.{ProcessJob}
 use Rattle.shop_floor.specs.Floor.{floor_of, number_of as carrier_number}
 use Rattle.shop_floor.proofs.Apart.{all_follows, found_one, found_only, found_passes, named_so, has_its_name, IsOnly}
-use Rattle.substrate.specs.Tables.{processing_number}
 use Rattle.substrate.specs.Places.{has_name as has_sub, substrate_named}
 use Rattle.substrate.specs.declared.registered.Registered.{Registered}
 use Rattle.floor_model.specs.declared.tracked.Substrate.{Substrate}
@@ -29,8 +28,7 @@ use Rattle.floor_moves.proofs.Promised.{no_member}
 use Rattle.floor_moves.proofs.Scans.{filter_tells}
 use Rattle.place_laws.specs.Picture.{picture, loc_of, place_in, where_present, of_one, of_job, is_complete, chambers_in, numbers_from}
 use Rattle.place_laws.specs.Sound.{IsOfKept, Base}
-use Rattle.place_laws.proofs.Holding.{found_number, true_of_found, one_found, rising_distinct, IsOne}
-use Rattle.picture_laws.proofs.Columns.{unknown_none}
+use Rattle.place_laws.proofs.Holding.{found_number, true_of_found, one_found, rising_distinct}
 use Rattle.floor_laws.proofs.RegNames.{modules_same}
 use Rattle.floor_laws.proofs.RemLists.{kept_found, gone_found, none_found, any_found, own_found, only_numbered, numbers_left, held_distinct, carriers_distinct}
 use Rattle.floor_laws.proofs.RemPlaces.{stays, removed_held, removed_given, removed_chambers}
@@ -254,7 +252,6 @@ module _ (f : ToolFloor) (b : Base f) (name : List ℕ) (c : Carrier) (found : c
       slot_of = λ k e. says_left 0 _ k e;
       place_of = place;
       processing = λ k e. says_left 0 _ k e;
-      unknown = λ k e one. let z : IsOne 0 = sym (ap (of_one 0 (λ (s : Substrate). processing_number s.states.processing)) (unknown_none k (filter is_other f.substrates) (ap (λ (ns : List ℕ). is_one_of ns k) numbers ∙ e))) ∙ one in omega (arith, z);
       is_aligned = λ k e. says_left false _ k e;
       carriers = carriers_numbers;
       present_at = present;

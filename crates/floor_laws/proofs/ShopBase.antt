@@ -104,7 +104,7 @@ module _ (f : ToolFloor) (s : Floor) where
       here = here;
       complete = v.members.complete;
     };
-    work = v.work;
+    removed = v.removed;
   }
 
   -- all of it

@@ -4,7 +4,7 @@ use Rattle.std.proofs.lemmas.Bool.{true≢false, and_parts, not-true}
 use Rattle.std.proofs.lemmas.Bool.Decides.{Decides-eqb}
 use Rattle.gem_tables.specs.Table.{firing, is_one_of, is_creation, is_among, row_of, found_starts, after}
 use Rattle.gem_tables.specs.declared.firing.Firing.{Firing}
-use Rattle.gem_tables.proofs.Machines.{starts_cases}
+use Rattle.floor_model.proofs.EachTable.{starts_cases}
 use Rattle.gem_tables.proofs.Rows.{found_row}
 use Rattle.carrier.specs.declared.carrier.Carrier.{Carrier}
 use Rattle.carrier.specs.declared.record.Accessing.{Accessing}
@@ -18,7 +18,7 @@ use Rattle.shop_floor.proofs.Keeps.{row-keeps as shop_keeps, accessing-keeps}
 use Rattle.floor_model.specs.declared.tracked.Substrate.{Substrate}
 use Rattle.floor_model.specs.Floor.{ToolFloor, with_shop}
 use Rattle.floor_model.specs.Jobs.{is_any_of_carrier}
-use Rattle.floor_model.specs.Machines.{floor_machines, floor_starts, floor_fired, taken_along, accessing_starts}
+use Rattle.floor_model.specs.Machines.{floor_starts, floor_fired, taken_along, accessing_starts}
 use Rattle.floor_model.specs.Wants.{accessing_wants, is_quiet, are_back}
 use Rattle.floor_model.specs.Substrates.{reaches_verified, without_carrier, registers_found}
 use Rattle.shop_floor.specs.Owning.{owner_number}
@@ -130,32 +130,21 @@ takes_none row port f gentle = of (row == 6) refl where
 
 pub shop_row_sound : (x : Firing) (f : ToolFloor) → floor_starts x f ≡ true → is_shop_row x ≡ true → Sound f → Sound (floor_fired x f)
 shop_row_sound x f starts kind sound =
-    starts_cases (λ (y : Firing). is_shop_row y ≡ true → Sound (floor_fired y f)) f x floor_machines (
-      (λ s kind. by_shop 4 x.object x.row.row s (plain 4 kind) (transfer_leaves f.substrates f.shop x.object x.row.row) (transfer_access f.shop x.object x.row.row)),
-      (
-        (λ s kind. by_shop 5 x.object x.row.row s (plain 5 kind) (mode_leaves f.substrates f.shop x.object x.row.row) (mode_access f.shop x.object x.row.row)),
-        (
-          (λ s kind. by_shop 6 x.object x.row.row s (plain 6 kind) (reservation_leaves f.substrates f.shop x.object x.row.row) (reservation_access f.shop x.object x.row.row)),
-          (
-            (λ s kind. association x.object x.row.row s (plain 7 kind)),
-            (
-              (λ s kind. by_shop 8 x.object x.row.row s refl (id_leaves f.substrates f.shop x.object x.row.row) (id_access f.shop x.object x.row.row)),
-              (
-                (λ s kind. slots x.object x.row.row s (not-true _ (sym (or-false (not (reaches_verified x.row.row))) ∙ kind))),
-                (
-                  (λ s kind. accessing_sound f x.object x.row.row (not-true _ kind) s sound),
-                  (
-                    (λ s kind. location_sound f _ sound),
-                    ((λ s kind. absurd (cc)), ((λ s kind. absurd (cc)), ((λ s kind. absurd (cc)), ((λ s kind. absurd (cc)), ((λ s kind. absurd (cc)), tt))))),
-                  ),
-                ),
-              ),
-            ),
-          ),
-        ),
-      ),
-    )
-    starts kind where
+    starts_cases (λ (y : Firing). is_shop_row y ≡ true → Sound (floor_fired y f)) f x (record {
+      transfer = λ s kind. by_shop 4 x.object x.row.row s (plain 4 kind) (transfer_leaves f.substrates f.shop x.object x.row.row) (transfer_access f.shop x.object x.row.row);
+      access = λ s kind. by_shop 5 x.object x.row.row s (plain 5 kind) (mode_leaves f.substrates f.shop x.object x.row.row) (mode_access f.shop x.object x.row.row);
+      reservation = λ s kind. by_shop 6 x.object x.row.row s (plain 6 kind) (reservation_leaves f.substrates f.shop x.object x.row.row) (reservation_access f.shop x.object x.row.row);
+      association = λ s kind. association x.object x.row.row s (plain 7 kind);
+      id = λ s kind. by_shop 8 x.object x.row.row s refl (id_leaves f.substrates f.shop x.object x.row.row) (id_access f.shop x.object x.row.row);
+      map = λ s kind. slots x.object x.row.row s (not-true _ (sym (or-false (not (reaches_verified x.row.row))) ∙ kind));
+      accessing = λ s kind. accessing_sound f x.object x.row.row (not-true _ kind) s sound;
+      location = λ s kind. location_sound f _ sound;
+      transport = λ s kind. absurd (cc);
+      processing = λ s kind. absurd (cc);
+      process_job = λ s kind. absurd (cc);
+      control_job = λ s kind. absurd (cc);
+      move = λ s kind. absurd (cc);
+    }) starts kind where
       plain : (table : ℕ) → is_shop_row (firing table x.object x.row.row) ≡ true → is_plain_row (firing table x.object x.row.row) ≡ true
       plain table e = (and_parts (is_plain_row (firing table x.object x.row.row)) _ e).0
 

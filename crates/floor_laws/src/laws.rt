@@ -26,7 +26,7 @@ ghost use Rattle.floor_model.specs.Machines.{floor_starts, floor_fired, floor_le
 ghost use Rattle.floor_model.specs.Signals.{done_rows, closing_rows, lost_rows};
 ghost use Rattle.floor_moves.specs.OnePlace.{OnePlace};
 ghost use Rattle.place_laws.specs.Picture.{picture};
-ghost use Rattle.place_laws.specs.Sound.{Sound, SoundBut};
+ghost use Rattle.place_laws.specs.Sound.{Sound};
 ghost use Rattle.floor_laws.specs.Moves.{DoneAt, LostAt};
 ghost use Rattle.floor_laws.specs.Rows.{is_common, listed};
 
@@ -91,11 +91,10 @@ pub fn it_is_kept_as_jobs_change()
     ensures control { (f : ToolFloor) (s : JobStore) → Sound f → Sound (with_jobs (record f.jobs { control = s }) f) }
 {}
 
-/// Where it holds, each substrate has one place, also between the two rows by which a Process ends, and between those by which a
-/// carrier is removed; and at most 25 substrates of each load port are kept.
+/// Where it holds, each substrate has one place, so behind the row of a module, before another follows, and between the two rows by which
+/// a carrier is removed; and at most 25 substrates of each load port are kept.
 pub fn each_substrate_has_one_place()
     ensures at_every_moment { (f : ToolFloor) → Sound f → OnePlace (picture f) }
-    ensures between { (n : ℕ) (f : ToolFloor) → SoundBut n f → OnePlace (picture f) }
     ensures behind { (f : ToolFloor) (m row : ℕ) → floor_starts (firing 16 m row) f ≡ true
         → is_one_of (5 ∷ 6 ∷ 7 ∷ 8 ∷ 9 ∷ 10 ∷ []) row ≡ true → Sound f → OnePlace (picture (floor_fired (firing 16 m row) f)) }
     ensures vacated { (port : ℕ) (f : ToolFloor) → floor_starts (firing 4 port 5) f ≡ true → Sound f

@@ -1,12 +1,11 @@
 -- Each row that fires by itself lets what is left fall, by more than the rows count that follow it.
 use Rattle.std.proofs.Common.{◌≡◌, ℕ, zero, suc, ◌+◌, ◌*◌, ◌==◌, ◌<◌, ◌≤◌, Bool, true, false, not, if◌then◌else◌, List, [], ◌∷◌, ◌++◌, length, drop, map, Option, Some, None, slice_get, find, refl, sym, ap, subst, ◌∙◌, arith}
-use Rattle.std.specs.List.{AllByRecursion}
 use Rattle.std.proofs.lemmas.Bool.{true≢false}
 use Rattle.gem_tables.specs.Machine.{Machine}
 use Rattle.gem_tables.specs.Table.{firing, is_among, is_one_of, row_of, after, update_at}
 use Rattle.gem_tables.specs.declared.firing.Firing.{Firing}
 use Rattle.gem_tables.proofs.Rows.{ready_row}
-use Rattle.gem_tables.proofs.Machines.{least_cases}
+use Rattle.floor_model.proofs.EachTable.{EachTable, least_cases}
 use Rattle.load_port.specs.Tables.{association_number, association_table}
 use Rattle.carrier.specs.declared.carrier.Carrier.{Carrier}
 use Rattle.carrier.specs.declared.record.Accessing.{Accessing}
@@ -43,7 +42,7 @@ use Rattle.substrate.specs.declared.record.SubstrateRecord.{SubstrateRecord}
 use Rattle.tool_jobs.specs.Left.{jobs_left}
 use Rattle.tool_jobs.proofs.Falls.{process_falls, control_falls}
 use Rattle.floor_model.proofs.Marks.{marked_left}
-use Rattle.floor_model.specs.Machines.{process_machine, control_machine, registered_by, accessing_ready, location_ready, substrate_ready, substrate_moves, floor_machines, floor_fired, creation_rows, floor_least, moved_by}
+use Rattle.floor_model.specs.Machines.{process_machine, control_machine, registered_by, accessing_ready, location_ready, substrate_ready, substrate_moves, floor_fired, creation_rows, floor_least, moved_by}
 use Rattle.floor_model.specs.Left.{disagrees, locations_left, transport_left, processing_left, substrate_left, substrates_left, modules_left, floor_left}
 use Rattle.shop_floor.specs.Left.{weighs}
 use Rattle.robot_moves.specs.declared.view.Move.{Move}
@@ -73,7 +72,7 @@ not_6 s port row e =
 
 falls_7 : (f : ToolFloor) (port row : ℕ) → association_machine.ready port f.shop ≡ Some row → Falls f (firing 7 port row)
 falls_7 f port row e =
-    let h = (shop_all_fall f.shop).1.1.1.0 port row e in
+    let h = (shop_all_fall f.shop).association port row e in
     rw (not_6 f.shop port row e) (shop_falls f (association_machine.fired row port f.shop) (length (association_machine.creates row port f.shop)) (omega (arith, h)))
 
 -- ---- the slot map
@@ -85,7 +84,7 @@ drop_all (s ∷ ss) = drop_all ss
 falls_9_1 : (f : ToolFloor) (carrier : ℕ) → map_machine.ready carrier f.shop ≡ Some 1 → Falls f (firing 9 carrier 1)
 falls_9_1 f carrier e =
     let g : ToolFloor = registered_by 1 carrier f in
-    let h = (shop_all_fall f.shop).1.1.1.1.1.0 carrier 1 e in
+    let h = (shop_all_fall f.shop).map carrier 1 e in
     let registers : Registers 25 f g = row_registered 1 carrier f in
     let left = registers.left in
     let few = registers.few in
@@ -97,7 +96,7 @@ falls_9_1 f carrier e =
 
 falls_9_2 : (f : ToolFloor) (carrier : ℕ) → map_machine.ready carrier f.shop ≡ Some 2 → Falls f (firing 9 carrier 2)
 falls_9_2 f carrier e =
-    let h = (shop_all_fall f.shop).1.1.1.1.1.0 carrier 2 e in
+    let h = (shop_all_fall f.shop).map carrier 2 e in
     let rows : length (registration_rows (drop (length f.substrates) f.substrates)) ≡ 0 = ap (λ (ss : List Substrate). length (registration_rows ss)) (drop_all f.substrates) in
     omega (arith, h, rows)
 
@@ -352,40 +351,24 @@ falls_16 f number row e = of (planned number f) refl e where
 -- ---- all tables
 
 -- what is left falls where a row is ready by itself, table by table
-pub all_fall : (f : ToolFloor) → AllByRecursion (λ (m : Machine ToolFloor). (object row : ℕ) → m.ready object f ≡ Some row → Falls f (firing m.table object row)) floor_machines
+pub all_fall : (f : ToolFloor) → EachTable (λ (m : Machine ToolFloor). (object row : ℕ) → m.ready object f ≡ Some row → Falls f (firing m.table object row))
 all_fall f =
-    let shop = shop_all_fall f.shop in (
-      (λ o r e. let h = shop.0 o r e in shop_falls f (transfer_machine.fired r o f.shop) (length (transfer_machine.creates r o f.shop)) (omega (arith, h))),
-      (
-        (λ o r e. let h = shop.1.0 o r e in shop_falls f (access_machine.fired r o f.shop) (length (access_machine.creates r o f.shop)) (omega (arith, h))),
-        (
-          (λ o r e. let h = shop.1.1.0 o r e in shop_falls f (reservation_machine.fired r o f.shop) (length (reservation_machine.creates r o f.shop)) (omega (arith, h))),
-          (
-            (λ o r e. falls_7 f o r e),
-            (
-              (λ o r e. let h = shop.1.1.1.1.0 o r e in shop_falls f (id_machine.fired r o f.shop) (length (id_machine.creates r o f.shop)) (omega (arith, h))),
-              (
-                (λ o r e. falls_9 f o r e),
-                (
-                  (λ o r e. falls_at_carrier f o r (carrier_numbered o f.shop.carriers) refl e),
-                  (
-                    (λ o r e. falls_at_location f o r e),
-                    (
-                      (λ o r e. transport_at f o r (substrate_numbered o f.substrates) refl e),
-                      (
-                        (λ o r e. processing_at f o r (substrate_numbered o f.substrates) refl e),
-                        ((λ o r e. falls_14 f o r e), ((λ o r e. falls_15 f o r e), ((λ o r e. falls_16 f o r e), tt))),
-                      ),
-                    ),
-                  ),
-                ),
-              ),
-            ),
-          ),
-        ),
-      ),
-    )
+    let shop = shop_all_fall f.shop in record {
+      transfer = λ o r e. let h = shop.transfer o r e in shop_falls f (transfer_machine.fired r o f.shop) (length (transfer_machine.creates r o f.shop)) (omega (arith, h));
+      access = λ o r e. let h = shop.access o r e in shop_falls f (access_machine.fired r o f.shop) (length (access_machine.creates r o f.shop)) (omega (arith, h));
+      reservation = λ o r e. let h = shop.reservation o r e in shop_falls f (reservation_machine.fired r o f.shop) (length (reservation_machine.creates r o f.shop)) (omega (arith, h));
+      association = λ o r e. falls_7 f o r e;
+      id = λ o r e. let h = shop.id o r e in shop_falls f (id_machine.fired r o f.shop) (length (id_machine.creates r o f.shop)) (omega (arith, h));
+      map = λ o r e. falls_9 f o r e;
+      accessing = λ o r e. falls_at_carrier f o r (carrier_numbered o f.shop.carriers) refl e;
+      location = λ o r e. falls_at_location f o r e;
+      transport = λ o r e. transport_at f o r (substrate_numbered o f.substrates) refl e;
+      processing = λ o r e. processing_at f o r (substrate_numbered o f.substrates) refl e;
+      process_job = λ o r e. falls_14 f o r e;
+      control_job = λ o r e. falls_15 f o r e;
+      move = λ o r e. falls_16 f o r e;
+    }
 
 -- so it falls with the least
 pub least_falls : (f : ToolFloor) (x : Firing) → floor_least f ≡ Some x → floor_left (floor_fired x f) + length (creation_rows x f) < floor_left f
-least_falls f x e = least_cases (Falls f) f x floor_machines (all_fall f) e
+least_falls f x e = least_cases (Falls f) f x (all_fall f) e

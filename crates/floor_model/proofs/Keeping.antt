@@ -6,7 +6,7 @@ use Rattle.std.proofs.lemmas.Bool.Decides.{nat_tests}
 use Rattle.gem_tables.specs.Machine.{Machine}
 use Rattle.gem_tables.specs.Table.{firing, is_one_of, row_of}
 use Rattle.gem_tables.proofs.Rows.{one_of_cases, ready_may_fire, looked_for}
-use Rattle.gem_tables.proofs.Machines.{least_cases, starts_cases, either_creates, none_ready}
+use Rattle.gem_tables.proofs.Machines.{none_ready}
 use Rattle.gem_tables.specs.declared.firing.Firing.{Firing}
 use Rattle.carrier.specs.declared.carrier.Carrier.{Carrier}
 use Rattle.carrier.specs.Tables.{access_number, accessing_table}
@@ -35,9 +35,10 @@ use Rattle.process_job.specs.Jobs.{job_numbered as process_numbered}
 use Rattle.control_job.specs.Jobs.{job_numbered as control_numbered}
 use Rattle.tool_jobs.proofs.Falls.{process_ready_starts, control_ready_starts}
 use Rattle.floor_model.proofs.Marks.{found_valid}
-use Rattle.floor_model.specs.Machines.{taken_along, registered_by, accessing_starts, accessing_ready, location_starts, location_ready, substrate_starts, substrate_ready, substrate_moves, floor_machines, floor_starts, floor_fired, creation_rows, is_creation, floor_least, moved_by}
-use Rattle.floor_model.proofs.Tables.{least_floor, first_location as first_ready_location, first_move}
+use Rattle.floor_model.specs.Machines.{taken_along, registered_by, accessing_starts, accessing_ready, location_starts, location_ready, substrate_starts, substrate_ready, substrate_moves, floor_starts, floor_fired, creation_rows, is_creation, floor_least, moved_by}
+use Rattle.floor_model.proofs.Tables.{none_of, least_floor, first_location as first_ready_location, first_move}
 use Rattle.floor_model.proofs.Moves.{none_to_move}
+use Rattle.floor_model.proofs.EachTable.{EachTable, starts_cases, least_cases, either_creates}
 use Rattle.floor_model.specs.Views.{planned}
 use Rattle.floor_model.specs.Modules.{move_wants, move_starts, move_ready, issued, open_task, aligned_by, found_move}
 use Rattle.tool_tasks.specs.declared.task.Task.{Task}
@@ -52,44 +53,39 @@ use Rattle.floor_model.proofs.Registrations.{Registers, row_registered, drop_bef
 
 -- ---- the least row
 
--- what is true of each table but 1 to 3 is true of the table of the least row
-pub of_tables : (P : ℕ → Type 0) (f : ToolFloor) (x : Firing) → AllByRecursion P (4 ∷ 5 ∷ 6 ∷ 7 ∷ 8 ∷ 9 ∷ 10 ∷ 11 ∷ 12 ∷ 13 ∷ 14 ∷ 15 ∷ 16 ∷ []) → floor_least f ≡ Some x → P x.row.table
-of_tables P f x all e =
-    least_cases (λ (y : Firing). P y.row.table) f x floor_machines (
-      (λ _ _ _. all.0),
-      (
-        (λ _ _ _. all.1.0),
-        (
-          (λ _ _ _. all.1.1.0),
-          (
-            (λ _ _ _. all.1.1.1.0),
-            (
-              (λ _ _ _. all.1.1.1.1.0),
-              (
-                (λ _ _ _. all.1.1.1.1.1.0),
-                (
-                  (λ _ _ _. all.1.1.1.1.1.1.0),
-                  (
-                    (λ _ _ _. all.1.1.1.1.1.1.1.0),
-                    ((λ _ _ _. all.1.1.1.1.1.1.1.1.0), ((λ _ _ _. all.1.1.1.1.1.1.1.1.1.0), ((λ _ _ _. all.1.1.1.1.1.1.1.1.1.1.0), ((λ _ _ _. all.1.1.1.1.1.1.1.1.1.1.1.0), ((λ _ _ _. all.1.1.1.1.1.1.1.1.1.1.1.1.0), tt))))),
-                  ),
-                ),
-              ),
-            ),
-          ),
-        ),
-      ),
-    ) e
-
 -- it is none of communication, control and notes
+least_above : (f : ToolFloor) (x : Firing) → floor_least f ≡ Some x → is_one_of (1 ∷ 2 ∷ 3 ∷ []) x.row.table ≡ false
+least_above f x e =
+    least_cases (λ (y : Firing). is_one_of (1 ∷ 2 ∷ 3 ∷ []) y.row.table ≡ false) f x (record {
+      transfer = λ _ _ _. refl;
+      access = λ _ _ _. refl;
+      reservation = λ _ _ _. refl;
+      association = λ _ _ _. refl;
+      id = λ _ _ _. refl;
+      map = λ _ _ _. refl;
+      accessing = λ _ _ _. refl;
+      location = λ _ _ _. refl;
+      transport = λ _ _ _. refl;
+      processing = λ _ _ _. refl;
+      process_job = λ _ _ _. refl;
+      control_job = λ _ _ _. refl;
+      move = λ _ _ _. refl;
+    }) e
+
+above_1 : (f : ToolFloor) (x : Firing) → floor_least f ≡ Some x → ((x.row.table == 1) ≡ false) × (is_one_of (2 ∷ 3 ∷ []) x.row.table ≡ false)
+above_1 f x e = none_of 1 (2 ∷ 3 ∷ []) x.row.table (least_above f x e)
+
+above_2 : (f : ToolFloor) (x : Firing) → floor_least f ≡ Some x → ((x.row.table == 2) ≡ false) × (is_one_of (3 ∷ []) x.row.table ≡ false)
+above_2 f x e = none_of 2 (3 ∷ []) x.row.table (above_1 f x e).1
+
 pub not_table_1 : (f : ToolFloor) (x : Firing) → floor_least f ≡ Some x → (x.row.table == 1) ≡ false
-not_table_1 f x = of_tables (λ n. (n == 1) ≡ false) f x (refl, (refl, (refl, (refl, (refl, (refl, (refl, (refl, (refl, (refl, (refl, (refl, (refl, tt)))))))))))))
+not_table_1 f x e = (above_1 f x e).0
 
 pub not_table_2 : (f : ToolFloor) (x : Firing) → floor_least f ≡ Some x → (x.row.table == 2) ≡ false
-not_table_2 f x = of_tables (λ n. (n == 2) ≡ false) f x (refl, (refl, (refl, (refl, (refl, (refl, (refl, (refl, (refl, (refl, (refl, (refl, (refl, tt)))))))))))))
+not_table_2 f x e = (above_2 f x e).0
 
 pub not_table_3 : (f : ToolFloor) (x : Firing) → floor_least f ≡ Some x → (x.row.table == 3) ≡ false
-not_table_3 f x = of_tables (λ n. (n == 3) ≡ false) f x (refl, (refl, (refl, (refl, (refl, (refl, (refl, (refl, (refl, (refl, (refl, (refl, (refl, tt)))))))))))))
+not_table_3 f x e = (none_of 3 [] x.row.table (above_2 f x e).1).0
 
 -- ---- it starts
 
@@ -111,42 +107,26 @@ move_start f row plan None e = absurd (cc)
 move_start f row plan (Some m) e =
     ready_may_fire state_number (λ want. move_wants want plan m) move_table row (state_of m) (refl, (refl, (refl, (refl, (refl, (refl, (refl, (refl, (refl, (refl, tt)))))))))) e
 
-all_start : (f : ToolFloor) → AllByRecursion (λ (m : Machine ToolFloor). (object row : ℕ) → m.ready object f ≡ Some row → floor_starts (firing m.table object row) f ≡ true) floor_machines
+all_start : (f : ToolFloor) → EachTable (λ (m : Machine ToolFloor). (object row : ℕ) → m.ready object f ≡ Some row → floor_starts (firing m.table object row) f ≡ true)
 all_start f =
-    let shop = shop_all_start f.shop in (
-      (λ o r e. shop.0 o r e),
-      (
-        (λ o r e. shop.1.0 o r e),
-        (
-          (λ o r e. shop.1.1.0 o r e),
-          (
-            (λ o r e. shop.1.1.1.0 o r e),
-            (
-              (λ o r e. shop.1.1.1.1.0 o r e),
-              (
-                (λ o r e. shop.1.1.1.1.1.0 o r e),
-                (
-                  (λ o r e. accessing_start f r (carrier_numbered o f.shop.carriers) e),
-                  (
-                    (λ o r e. location_start f r o (location_at o f.locations) e),
-                    (
-                      (λ o r e. substrate_start transport_number transport_table (λ s. s.transport) f r (substrate_numbered o f.substrates) (refl, (refl, (refl, tt))) e),
-                      (
-                        (λ o r e. substrate_start processing_number processing_table (λ s. s.processing) f r (substrate_numbered o f.substrates) (refl, (refl, (refl, (refl, (refl, (refl, (refl, (refl, tt)))))))) e),
-                        ((λ o r e. process_ready_starts (process_numbered o f.jobs.process.kept) r (found_sight (process_numbered o f.jobs.process.kept) f) f.jobs e), ((λ o r e. control_ready_starts (control_numbered o f.jobs.control.jobs) r (is_first_here o f) f.jobs e), ((λ o r e. move_start f r (planned o f) (module_at o f.modules) e), tt))),
-                      ),
-                    ),
-                  ),
-                ),
-              ),
-            ),
-          ),
-        ),
-      ),
-    )
+    let shop = shop_all_start f.shop in record {
+      transfer = λ o r e. shop.transfer o r e;
+      access = λ o r e. shop.access o r e;
+      reservation = λ o r e. shop.reservation o r e;
+      association = λ o r e. shop.association o r e;
+      id = λ o r e. shop.id o r e;
+      map = λ o r e. shop.map o r e;
+      accessing = λ o r e. accessing_start f r (carrier_numbered o f.shop.carriers) e;
+      location = λ o r e. location_start f r o (location_at o f.locations) e;
+      transport = λ o r e. substrate_start transport_number transport_table (λ s. s.transport) f r (substrate_numbered o f.substrates) (refl, (refl, (refl, tt))) e;
+      processing = λ o r e. substrate_start processing_number processing_table (λ s. s.processing) f r (substrate_numbered o f.substrates) (refl, (refl, (refl, (refl, (refl, (refl, (refl, (refl, tt)))))))) e;
+      process_job = λ o r e. process_ready_starts (process_numbered o f.jobs.process.kept) r (found_sight (process_numbered o f.jobs.process.kept) f) f.jobs e;
+      control_job = λ o r e. control_ready_starts (control_numbered o f.jobs.control.jobs) r (is_first_here o f) f.jobs e;
+      move = λ o r e. move_start f r (planned o f) (module_at o f.modules) e;
+    }
 
 pub least_starts : (f : ToolFloor) (x : Firing) → floor_least f ≡ Some x → floor_starts x f ≡ true
-least_starts f x e = least_cases (λ (y : Firing). floor_starts y f ≡ true) f x floor_machines (all_start f) e
+least_starts f x e = least_cases (λ (y : Firing). floor_starts y f ≡ true) f x (all_start f) e
 
 -- ---- what a row creates
 
@@ -268,22 +248,21 @@ map_follow row carrier f s =
 
 follows : (x : Firing) (f : ToolFloor) → Follows (creation_rows x f) (floor_fired x f)
 follows x f =
-    either_creates Follows f x floor_machines (none_follow f) (
-      shop_follow (firing 4 x.object x.row.row) f.shop _ refl,
-      (
-        shop_follow (firing 5 x.object x.row.row) f.shop _ refl,
-        (
-          shop_follow (firing 6 x.object x.row.row) f.shop _ refl,
-          (
-            shop_follow (firing 7 x.object x.row.row) f.shop _ refl,
-            (
-              shop_follow (firing 8 x.object x.row.row) f.shop _ refl,
-              (map_follow x.row.row x.object f _, (none_follow _, (none_follow _, (none_follow _, (none_follow _, (none_follow _, (none_follow _, (none_follow _, tt)))))))),
-            ),
-          ),
-        ),
-      ),
-    )
+    either_creates Follows f x (none_follow f) (record {
+      transfer = shop_follow (firing 4 x.object x.row.row) f.shop _ refl;
+      access = shop_follow (firing 5 x.object x.row.row) f.shop _ refl;
+      reservation = shop_follow (firing 6 x.object x.row.row) f.shop _ refl;
+      association = shop_follow (firing 7 x.object x.row.row) f.shop _ refl;
+      id = shop_follow (firing 8 x.object x.row.row) f.shop _ refl;
+      map = map_follow x.row.row x.object f _;
+      accessing = none_follow _;
+      location = none_follow _;
+      transport = none_follow _;
+      processing = none_follow _;
+      process_job = none_follow _;
+      control_job = none_follow _;
+      move = none_follow _;
+    })
 
 pub creations : (f : ToolFloor) (x : Firing) → AreCreations (creation_rows x f)
 creations f x = (follows x f).are
@@ -328,25 +307,21 @@ move_shop row number f valid =
 -- the load ports and the carriers stay valid behind each row that starts
 pub row-keeps : (x : Firing) (f : ToolFloor) → floor_starts x f ≡ true → IsFloor f.shop → IsFloor (floor_fired x f).shop
 row-keeps x f starts valid =
-    starts_cases (λ (y : Firing). IsFloor (floor_fired y f).shop) f x floor_machines (
-      (λ s. shop_keeps (firing 4 x.object x.row.row) f.shop s valid),
-      (
-        (λ s. shop_keeps (firing 5 x.object x.row.row) f.shop s valid),
-        (
-          (λ s. shop_keeps (firing 6 x.object x.row.row) f.shop s valid),
-          (
-            (λ s. shop_keeps (firing 7 x.object x.row.row) f.shop s valid),
-            (
-              (λ s. shop_keeps (firing 8 x.object x.row.row) f.shop s valid),
-              (
-                (λ s. shop_keeps (firing 9 x.object x.row.row) f.shop s valid),
-                ((λ s. accessing-keeps f.shop x.object x.row.row valid), ((λ s. valid), ((λ s. valid), ((λ s. processing_shop x.row.row x.object f valid), ((λ s. process_shop x.row.row x.object f valid), ((λ s. valid), ((λ s. move_shop x.row.row x.object f valid), tt))))))),
-              ),
-            ),
-          ),
-        ),
-      ),
-    ) starts
+    starts_cases (λ (y : Firing). IsFloor (floor_fired y f).shop) f x (record {
+      transfer = λ s. shop_keeps (firing 4 x.object x.row.row) f.shop s valid;
+      access = λ s. shop_keeps (firing 5 x.object x.row.row) f.shop s valid;
+      reservation = λ s. shop_keeps (firing 6 x.object x.row.row) f.shop s valid;
+      association = λ s. shop_keeps (firing 7 x.object x.row.row) f.shop s valid;
+      id = λ s. shop_keeps (firing 8 x.object x.row.row) f.shop s valid;
+      map = λ s. shop_keeps (firing 9 x.object x.row.row) f.shop s valid;
+      accessing = λ s. accessing-keeps f.shop x.object x.row.row valid;
+      location = λ s. valid;
+      transport = λ s. valid;
+      processing = λ s. processing_shop x.row.row x.object f valid;
+      process_job = λ s. process_shop x.row.row x.object f valid;
+      control_job = λ s. valid;
+      move = λ s. move_shop x.row.row x.object f valid;
+    }) starts
 
 -- ---- at the beginning
 

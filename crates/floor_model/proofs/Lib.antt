@@ -1,3 +1,5 @@
+pub mod EachTable
+pub mod AtRest
 pub mod Tables
 pub mod Behind
 pub mod Scans
@@ -14,4 +16,5 @@ pub mod Showing
 pub mod Told
 pub mod PlacePicks
 pub mod SlotPicks
+pub mod BestPicks
 pub mod Asked

@@ -1,4 +1,4 @@
--- The picks from the aligner and from the chambers, by who is there.
+-- The picks from the aligner and from the chambers, by who is there: those that are useful, and no others.
 use Rattle.std.proofs.Common.{◌≡◌, ℕ, zero, suc, ◌+◌, ◌-◌, ◌==◌, ◌<◌, ◌≤◌, nat_lt, nat_le, Bool, true, false, true≢false, cond, ◌&&◌, List, [], ◌∷◌, length, Option, Some, None, slice_get, refl, sym, ap, subst, ◌∙◌, arith}
 use Rattle.std.proofs.lemmas.Bool.Decides.{nat_tests}
 use Rattle.gem_ids.specs.declared.numbers.LocId.{LocId}
@@ -7,44 +7,33 @@ use Rattle.substrate.specs.Locations.{is_location}
 use Rattle.substrate.specs.Places.{ArePlaces}
 use Rattle.records.proofs.Truth.{and_true}
 use Rattle.robot_moves.specs.Modules.{chamber_module, module_at, is_idle}
-use Rattle.robot_moves.specs.Moves.{holder, stage_of, least_numbered, may_leave, is_useful, is_useful_at, stage_pick}
+use Rattle.robot_moves.specs.Moves.{holder, first_among, may_leave, is_useful}
 use Rattle.robot_moves.specs.declared.module.Module.{Module}
 use Rattle.robot_moves.specs.declared.view.PlaceView.{PlaceView}
-use Rattle.robot_moves.proofs.StagePicks.{joined, joined_next}
-use Rattle.robot_moves.proofs.Best.{is_least}
-use Rattle.robot_moves.proofs.Least.{all_at, no_pick, the_pick, holder_there, holder_of}
+use Rattle.robot_moves.proofs.Joined.{joined, joined_next}
+use Rattle.robot_moves.proofs.Least.{holder_there, holder_of}
 use Rattle.floor_model.specs.Floor.{ToolFloor}
 use Rattle.floor_model.specs.Views.{views}
-use Rattle.floor_model.specs.Picks.{where_useful, pick_at, chamber_pick, better_of}
+use Rattle.floor_model.specs.Picks.{where_useful, pick_at, chamber_pick, better_of, put_front, given_by, chamber_picks, aligner_pick}
 use Rattle.floor_model.proofs.Behind.{none_past}
-use Rattle.floor_model.proofs.Told.{views_rise, views_apart, view_within}
+use Rattle.floor_model.proofs.Told.{views_apart, view_within}
 
 -- ---- what several numbers give
-
--- in front of others, where it is given
-abbrev pub put_front : Option PlaceView → List PlaceView → List PlaceView
-put_front None vs = vs
-put_front (Some v) vs = v ∷ vs
-
--- what so many numbers give, from one on
-abbrev pub given_by : (ℕ → Option PlaceView) → ℕ → ℕ → List PlaceView
-given_by gives number zero = []
-given_by gives number (suc count) = put_front (gives number) (given_by gives (number + 1) count)
 
 module _ (gives : ℕ → Option PlaceView) where
   -- the next number's turn
   pub joined_given : (best : Option PlaceView) (index total : ℕ) → index < total
-      → joined best (least_numbered (given_by gives (index + 1) (total - index))) ≡ joined (better_of best (gives (index + 1))) (least_numbered (given_by gives (index + 1 + 1) (total - (index + 1))))
+      → joined best (first_among (given_by gives (index + 1) (total - index))) ≡ joined (better_of best (gives (index + 1))) (first_among (given_by gives (index + 1 + 1) (total - (index + 1))))
   joined_given best index total l =
       let count : total - index ≡ suc (total - (index + 1)) = omega arith in
       rw count (of (gives (index + 1)))
     where
-      of : (o : Option PlaceView) → joined best (least_numbered (put_front o (given_by gives (index + 1 + 1) (total - (index + 1))))) ≡ joined (better_of best o) (least_numbered (given_by gives (index + 1 + 1) (total - (index + 1))))
+      of : (o : Option PlaceView) → joined best (first_among (put_front o (given_by gives (index + 1 + 1) (total - (index + 1))))) ≡ joined (better_of best o) (first_among (given_by gives (index + 1 + 1) (total - (index + 1))))
       of None = refl
-      of (Some v) = joined_next best v (least_numbered (given_by gives (index + 1 + 1) (total - (index + 1))))
+      of (Some v) = joined_next best v (first_among (given_by gives (index + 1 + 1) (total - (index + 1))))
 
   -- none is left
-  pub joined_end : (best : Option PlaceView) (index total : ℕ) → total ≤ index → joined best (least_numbered (given_by gives (index + 1) (total - index))) ≡ best
+  pub joined_end : (best : Option PlaceView) (index total : ℕ) → total ≤ index → joined best (first_among (given_by gives (index + 1) (total - index))) ≡ best
   joined_end best index total l =
       let count : total - index ≡ zero = omega arith in
       rw count (of best)
@@ -96,10 +85,6 @@ module _ (gives : ℕ → Option PlaceView) where
 
 -- ---- useful picks
 
-pub both : (a b : Bool) → a ≡ true → b ≡ true → (a && b) ≡ true
-both true b p q = q
-both false b p q = absurd (true≢false (sym p))
-
 pub where_found : (vs : List PlaceView) (ms : List Module) (o : Option PlaceView) (v : PlaceView) → where_useful vs ms o ≡ Some v → (o ≡ Some v) × (is_useful vs ms v ≡ true)
 where_found vs ms None v e = absurd (cc)
 where_found vs ms (Some w) v e = of (is_useful vs ms w) refl e where
@@ -125,27 +110,11 @@ pick_found number loc vs ms v e = of (is_idle (module_at number ms)) e where
 pick_is : (number : ℕ) (loc : LocId) (vs : List PlaceView) (ms : List Module) (v : PlaceView) → is_idle (module_at number ms) ≡ true → holder loc vs ≡ Some v → is_useful vs ms v ≡ true → pick_at number loc vs ms ≡ Some v
 pick_is number loc vs ms v idle held useful = rw idle (where_is vs ms (holder loc vs) v held useful)
 
--- the parts of a useful pick of a stage
-useful_parts : (stage : ℕ) (vs : List PlaceView) (ms : List Module) (v : PlaceView) → is_useful_at stage vs ms v ≡ true → ((stage_of v.at == stage) ≡ true) × (may_leave v.at ms v ≡ true) × (is_useful vs ms v ≡ true)
-useful_parts stage vs ms v h =
-    let parts = and_true (stage_of v.at == stage) (is_useful vs ms v) h in
-    (parts.0, (and_true (may_leave v.at ms v) _ parts.1).0, parts.1)
+-- what may leave, and is useful
+pub useful_leaves : (vs : List PlaceView) (ms : List Module) (v : PlaceView) (l : LocId) → v.at ≡ l → is_useful vs ms v ≡ true → may_leave l ms v ≡ true
+useful_leaves vs ms v l at useful = subst (λ (x : LocId). may_leave x ms v ≡ true) at (and_true (may_leave v.at ms v) _ useful).0
 
--- ---- the aligner
-
-at_aligner : (l : LocId) → (stage_of l == 1) ≡ true → l ≡ Aligner
-at_aligner (Slot p k) h = absurd (true≢false (sym h))
-at_aligner Aligner h = refl
-at_aligner Arm h = absurd (true≢false (sym h))
-at_aligner (Chamber c) h = absurd (true≢false (sym h))
-
--- ---- the chambers
-
-at_chamber : (l : LocId) → (stage_of l == 2) ≡ true → (c : ℕ) × (l ≡ Chamber c)
-at_chamber (Slot p k) h = absurd (true≢false (sym h))
-at_chamber Aligner h = absurd (true≢false (sym h))
-at_chamber Arm h = absurd (true≢false (sym h))
-at_chamber (Chamber c) h = (c, refl)
+-- ---- the chambers and the aligner
 
 -- a chamber has a number past 0
 chamber_first : (ports chambers c : ℕ) → is_location ports chambers (Chamber c) ≡ true → 1 ≤ c
@@ -162,85 +131,47 @@ idle_within number ms idle = by_test (nat_lt (length ms) number) refl where
       absurd (true≢false (sym idle ∙ ap is_idle (none_past number ms past)))
   by_test false q = grind (arith, nat_tests)
 
+-- a useful pick, and where it stands
+pub record StandsAt (vs : List PlaceView) (ms : List Module) (l : LocId) (v : PlaceView) : Type 0 where
+  pub there : (i : ℕ) × (slice_get vs i ≡ Some v)
+  pub at : v.at ≡ l
+  pub useful : is_useful vs ms v ≡ true
+
+-- what is picked at a place stands there
+pick_stands : (number : ℕ) (l : LocId) (vs : List PlaceView) (ms : List Module) (v : PlaceView) → pick_at number l vs ms ≡ Some v → StandsAt vs ms l v
+pick_stands number l vs ms v e =
+    let found = pick_found number l vs ms v e in
+    let there = holder_there l vs v found.0 in
+    record { there = there.0; at = there.1; useful = found.1 }
+
 module _ (f : ToolFloor) (places : ArePlaces f.places) (ms : List Module) where
   -- what is useful at the aligner is picked there
-  aligner_useful : (i : ℕ) (w : PlaceView) → slice_get (views f) i ≡ Some w → is_useful_at 1 (views f) ms w ≡ true → pick_at 2 Aligner (views f) ms ≡ Some w
-  aligner_useful i w at h =
-      let parts = useful_parts 1 (views f) ms w h in
-      let here : w.at ≡ Aligner = at_aligner w.at parts.0 in
-      let leaves = subst (λ (l : LocId). may_leave l ms w ≡ true) here parts.1 in
-      let held = subst (λ (l : LocId). holder l (views f) ≡ Some w) here (holder_of (views f) i w (views_apart f places) at) in
-      pick_is 2 Aligner (views f) ms w (and_true (is_idle (module_at 2 ms)) _ leaves).0 held parts.2
+  pub aligner_useful : (i : ℕ) (w : PlaceView) → slice_get (views f) i ≡ Some w → w.at ≡ Aligner → is_useful (views f) ms w ≡ true → aligner_pick (views f) ms ≡ Some w
+  aligner_useful i w there at useful =
+      let leaves = useful_leaves (views f) ms w Aligner at useful in
+      let held = subst (λ (l : LocId). holder l (views f) ≡ Some w) at (holder_of (views f) i w (views_apart f places) there) in
+      pick_is 2 Aligner (views f) ms w (and_true (is_idle (module_at 2 ms)) _ leaves).0 held useful
 
-  pub aligner_is : pick_at 2 Aligner (views f) ms ≡ stage_pick 1 (views f) ms
-  aligner_is = of (pick_at 2 Aligner (views f) ms) refl where
-    of : (o : Option PlaceView) → pick_at 2 Aligner (views f) ms ≡ o → pick_at 2 Aligner (views f) ms ≡ stage_pick 1 (views f) ms
-    of None e =
-        e
-        ∙ sym (no_pick (is_useful_at 1 (views f) ms) (views f) (λ i w at. by_test i w at (is_useful_at 1 (views f) ms w) refl))
-      where
-        by_test : (i : ℕ) (w : PlaceView) → slice_get (views f) i ≡ Some w → (t : Bool) → is_useful_at 1 (views f) ms w ≡ t → is_useful_at 1 (views f) ms w ≡ false
-        by_test i w at true q = let found = aligner_useful i w at q in absurd (cc)
-        by_test i w at false q = q
-    of (Some v) e =
-        let found = pick_found 2 Aligner (views f) ms v e in
-        let there = holder_there Aligner (views f) v found.0 in
-        let stage : (stage_of v.at == 1) ≡ true = subst (λ (l : LocId). (stage_of l == 1) ≡ true) (sym there.1) refl in
-        let passes : is_useful_at 1 (views f) ms v ≡ true = both (stage_of v.at == 1) (is_useful (views f) ms v) stage found.1 in
-        e
-        ∙ sym (the_pick (is_useful_at 1 (views f) ms) 0 (views f) there.0.0 v (views_rise f places) there.0.1 passes (λ j w at h. same j w at h))
-      where
-        same : (j : ℕ) (w : PlaceView) → slice_get (views f) j ≡ Some w → is_useful_at 1 (views f) ms w ≡ true → v.number ≤ w.number
-        same j w at h =
-            let found = aligner_useful j w at h in
-            let one : v ≡ w = cc in
-            let number = ap (λ (x : PlaceView). x.number) one in
-            omega (arith, number)
+  pub aligner_stands : (v : PlaceView) → aligner_pick (views f) ms ≡ Some v → StandsAt (views f) ms Aligner v
+  aligner_stands v e = pick_stands 2 Aligner (views f) ms v e
 
   -- what is useful in a chamber is picked there
-  chamber_useful : (i : ℕ) (w : PlaceView) → slice_get (views f) i ≡ Some w → is_useful_at 2 (views f) ms w ≡ true
-      → (j : ℕ) × (slice_get (given_by (chamber_pick (views f) ms) 3 (length ms - 2)) j ≡ Some w)
-  chamber_useful i w at h =
-      let parts = useful_parts 2 (views f) ms w h in
-      let chamber = at_chamber w.at parts.0 in
-      let inside = subst (λ (l : LocId). is_location f.places.ports f.places.chambers l ≡ true) chamber.1 (view_within f places i w at) in
-      let first : 1 ≤ chamber.0 = chamber_first f.places.ports f.places.chambers chamber.0 inside in
-      let leaves = subst (λ (l : LocId). may_leave l ms w ≡ true) chamber.1 parts.1 in
-      let idle : is_idle (module_at (chamber_module chamber.0) ms) ≡ true = (and_true (is_idle (module_at (chamber_module chamber.0) ms)) _ leaves).0 in
-      let most : chamber_module chamber.0 ≤ length ms = idle_within (chamber_module chamber.0) ms idle in
-      let held = subst (λ (l : LocId). holder l (views f) ≡ Some w) chamber.1 (holder_of (views f) i w (views_apart f places) at) in
-      let own : chamber_module chamber.0 - 2 ≡ chamber.0 = omega arith in
-      let picked : chamber_pick (views f) ms (chamber_module chamber.0) ≡ Some w =
-      pick_is (chamber_module chamber.0) (Chamber (chamber_module chamber.0 - 2)) (views f) ms w idle (subst (λ (n : ℕ). holder (Chamber n) (views f) ≡ Some w) (sym own) held) parts.2 in
-      is_given (chamber_pick (views f) ms) 3 (length ms - 2) (chamber_module chamber.0) w (omega (arith, first)) (omega (arith, most)) picked
+  pub chamber_useful : (i : ℕ) (w : PlaceView) (c : ℕ) → slice_get (views f) i ≡ Some w → w.at ≡ Chamber c → is_useful (views f) ms w ≡ true
+      → (j : ℕ) × (slice_get (chamber_picks (views f) ms) j ≡ Some w)
+  chamber_useful i w c there at useful =
+      let inside = subst (λ (l : LocId). is_location f.places.ports f.places.chambers l ≡ true) at (view_within f places i w there) in
+      let first : 1 ≤ c = chamber_first f.places.ports f.places.chambers c inside in
+      let leaves = useful_leaves (views f) ms w (Chamber c) at useful in
+      let idle : is_idle (module_at (chamber_module c) ms) ≡ true = (and_true (is_idle (module_at (chamber_module c) ms)) _ leaves).0 in
+      let most : chamber_module c ≤ length ms = idle_within (chamber_module c) ms idle in
+      let held = subst (λ (l : LocId). holder l (views f) ≡ Some w) at (holder_of (views f) i w (views_apart f places) there) in
+      let own : chamber_module c - 2 ≡ c = omega arith in
+      let picked : chamber_pick (views f) ms (chamber_module c) ≡ Some w =
+      pick_is (chamber_module c) (Chamber (chamber_module c - 2)) (views f) ms w idle (subst (λ (n : ℕ). holder (Chamber n) (views f) ≡ Some w) (sym own) held) useful in
+      is_given (chamber_pick (views f) ms) 3 (length ms - 2) (chamber_module c) w (omega (arith, first)) (omega (arith, most)) picked
 
-  none_given : (vs : List PlaceView) → least_numbered vs ≡ None → (j : ℕ) (w : PlaceView) → slice_get vs j ≡ Some w → ⊥
-  none_given [] e j w at = cc
-  none_given (v ∷ vs) e j w at = cc
-
-  -- the picks of all chambers
-  abbrev all_given : List PlaceView
-  all_given = given_by (chamber_pick (views f) ms) 3 (length ms - 2)
-
-  pub chambers_are : least_numbered (given_by (chamber_pick (views f) ms) 3 (length ms - 2)) ≡ stage_pick 2 (views f) ms
-  chambers_are = of (least_numbered (given_by (chamber_pick (views f) ms) 3 (length ms - 2))) refl where
-    of : (o : Option PlaceView) → least_numbered all_given ≡ o → least_numbered all_given ≡ stage_pick 2 (views f) ms
-    of None e =
-        e
-        ∙ sym (no_pick (is_useful_at 2 (views f) ms) (views f) (λ i w at. by_test i w at (is_useful_at 2 (views f) ms w) refl))
-      where
-        by_test : (i : ℕ) (w : PlaceView) → slice_get (views f) i ≡ Some w → (t : Bool) → is_useful_at 2 (views f) ms w ≡ t → is_useful_at 2 (views f) ms w ≡ false
-        by_test i w at true q =
-            let found = chamber_useful i w at q in
-            absurd (none_given all_given e found.0 w found.1)
-        by_test i w at false q = q
-    of (Some v) e =
-        let least = is_least all_given v e in
-        let given = given_is (chamber_pick (views f) ms) 3 (length ms - 2) least.there.0 v least.there.1 in
-        let found = pick_found given.n (Chamber (given.n - 2)) (views f) ms v given.is in
-        let there = holder_there (Chamber (given.n - 2)) (views f) v found.0 in
-        let stage : (stage_of v.at == 2) ≡ true = subst (λ (l : LocId). (stage_of l == 2) ≡ true) (sym there.1) refl in
-        let passes : is_useful_at 2 (views f) ms v ≡ true = both (stage_of v.at == 2) (is_useful (views f) ms v) stage found.1 in
-        e
-        ∙ sym (the_pick (is_useful_at 2 (views f) ms) 0 (views f) there.0.0 v (views_rise f places) there.0.1 passes
-        (λ j w at h. let other = chamber_useful j w at h in all_at (λ (x : PlaceView). v.number ≤ x.number) all_given other.0 w least.least other.1))
+  pub chamber_stands : (j : ℕ) (v : PlaceView) → slice_get (chamber_picks (views f) ms) j ≡ Some v → (c : ℕ) × (1 ≤ c) × StandsAt (views f) ms (Chamber c) v
+  chamber_stands j v e =
+      let given = given_is (chamber_pick (views f) ms) 3 (length ms - 2) j v e in
+      let least = given.least in
+      (given.n - 2, omega (arith, least), pick_stands given.n (Chamber (given.n - 2)) (views f) ms v given.is)

@@ -1,5 +1,5 @@
 -- What a scan over the locations or the substrates finds.
-use Rattle.std.proofs.Common.{Bor, option_map, ◌≡◌, ℕ, zero, suc, ◌+◌, ◌-◌, ◌==◌, ◌<◌, ◌≤◌, Bool, true, false, if◌then◌else◌, filter, List, [], ◌∷◌, ◌++◌, length, map, drop, take, set, get_or, Option, Some, None, Result, Ok, Err, IfOk, IfErr, slice_get, refl, sym, ap, subst, ◌∙◌, arith}
+use Rattle.std.proofs.Common.{Bor, option_map, ◌≡◌, ℕ, zero, suc, ◌+◌, ◌-◌, ◌==◌, ◌<◌, ◌≤◌, Bool, true, false, if◌then◌else◌, filter, List, [], ◌∷◌, ◌++◌, length, map, drop, set, get_or, Option, Some, None, Result, Ok, Err, IfOk, IfErr, slice_get, refl, sym, ap, subst, ◌∙◌, arith}
 use Rattle.std.specs.List.{list_all}
 use Rattle.std.proofs.lemmas.Bool.Decides.{nat_tests}
 use Rattle.load_port.proofs.Places.{update_found, update_missing, update_none, update_set}
@@ -144,30 +144,6 @@ rise_kept last given test (s ∷ ss) r = of (test s) (rise_kept s.number given t
   of : (b : Bool) → RiseTo s.number given (filter test ss) → RiseTo last given (if b then s ∷ filter test ss else filter test ss)
   of true later = (r.0, later)
   of false later = rise_earlier last s.number given (filter test ss) (let first = r.0 in omega (arith, first)) later
-
--- ---- a change of the substrate of a number
-
-module _ (n : ℕ) (change : Substrate → Substrate) where
-  pub changed_here : (ss : List Substrate) (place : ℕ) (s : Substrate) → slice_get ss place ≡ Some s → (s.number == n) ≡ true → take place ss ++ change_numbered n change (drop place ss) ≡ set ss place (change s)
-  changed_here [] place s e is = absurd (cc)
-  changed_here (t ∷ ts) zero s e is = let same : t ≡ s = cc in rw (same, is) refl
-  changed_here (t ∷ ts) (suc place) s e is = ap (λ (xs : List Substrate). t ∷ xs) (changed_here ts place s e is)
-
-  next_changed : (ss : List Substrate) (place : ℕ) (s : Substrate) → slice_get ss place ≡ Some s → (s.number == n) ≡ false → take (suc place) ss ++ change_numbered n change (drop (suc place) ss) ≡ take place ss ++ change_numbered n change (drop place ss)
-  next_changed [] place s e is = absurd (cc)
-  next_changed (t ∷ ts) zero s e is = let same : t ≡ s = cc in rw (same, is) refl
-  next_changed (t ∷ ts) (suc place) s e is = ap (λ (xs : List Substrate). t ∷ xs) (next_changed ts place s e is)
-
-  pub changed_next : (ss : List Substrate) (place : ℕ) (s : Substrate) → slice_get ss place ≡ Some s → (s.number == n) ≡ false → take (place + 1) ss ++ change_numbered n change (drop (place + 1) ss) ≡ take place ss ++ change_numbered n change (drop place ss)
-  changed_next ss place s e is =
-      let more : place + 1 ≡ suc place = omega arith in
-      rw more (next_changed ss place s e is)
-
-  pub changed_end : (ss : List Substrate) (place : ℕ) → length ss ≤ place → take place ss ++ change_numbered n change (drop place ss) ≡ ss
-  changed_end [] zero l = refl
-  changed_end [] (suc place) l = refl
-  changed_end (t ∷ ts) zero l = absurd (omega arith)
-  changed_end (t ∷ ts) (suc place) l = ap (λ (xs : List Substrate). t ∷ xs) (changed_end ts place (omega arith))
 
 -- what follows from either answer of a call holds
 pub either_answer : {A E : Type 0} {P Q R : Type 0} (r : Result A E) → IfOk r (λ _. P) → IfErr r (λ _. Q) → (P → R) → (Q → R) → R

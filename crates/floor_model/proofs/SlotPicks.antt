@@ -11,27 +11,22 @@ use Rattle.substrate.specs.Record.{is_finished}
 use Rattle.substrate.specs.declared.registered.Registered.{Registered}
 use Rattle.substrate.proofs.Sites.{same_is}
 use Rattle.records.proofs.Truth.{and_true, not_true}
-use Rattle.robot_moves.specs.Moves.{holder, is_free, free_target, may_leave, is_useful, stage_of, is_useful_at, stage_pick}
+use Rattle.robot_moves.specs.Moves.{holder, is_free, free_target, may_leave, is_useful}
 use Rattle.robot_moves.specs.declared.module.Module.{Module}
 use Rattle.robot_moves.specs.declared.view.PlaceView.{PlaceView}
-use Rattle.robot_moves.proofs.Least.{no_pick, the_pick, holder_there}
+use Rattle.robot_moves.proofs.Least.{holder_there}
 use Rattle.tool_jobs.specs.Jobs.{Jobs}
 use Rattle.floor_model.specs.declared.tracked.Substrate.{Substrate}
 use Rattle.floor_model.specs.Floor.{ToolFloor, substrate_numbered}
 use Rattle.floor_model.specs.Floor.{RiseTo}
 use Rattle.floor_model.specs.Jobs.{job_of, is_job_so, is_processing}
 use Rattle.floor_model.specs.Views.{views}
-use Rattle.floor_model.specs.Picks.{told, told_of, told_there, told_in_slot, where_useful, may_be_picked, slot_pick}
+use Rattle.floor_model.specs.Picks.{told, told_of, told_there, told_in_slot, where_useful, may_be_picked, slot_pick, first_given, first_in_slot}
 use Rattle.floor_model.proofs.Scans.{rises_to, numbered_at}
-use Rattle.floor_model.proofs.Told.{views_rise, holder_is, view_is, place_found}
-use Rattle.floor_model.proofs.PlacePicks.{both, where_is, where_found}
+use Rattle.floor_model.proofs.Told.{holder_is, view_is, place_found}
+use Rattle.floor_model.proofs.PlacePicks.{where_is, where_found, useful_leaves}
 
 -- ---- the first of several that gives something
-
--- what the first of these gives
-abbrev pub first_given : (Substrate → Option PlaceView) → List Substrate → Option PlaceView
-first_given gives [] = None
-first_given gives (s ∷ ss) = option_or (gives s) (first_given gives ss)
 
 module _ (gives : Substrate → Option PlaceView) where
   pub given_here : (ss : List Substrate) (place : ℕ) (s : Substrate) (v : PlaceView) → slice_get ss place ≡ Some s → gives s ≡ Some v → first_given gives (drop place ss) ≡ Some v
@@ -198,66 +193,67 @@ picked_where f ms s aligner o e may =
 
 -- ---- the pick from the slots
 
--- a useful pick of stage 0 is that of a substrate in its slot
-in_slot : (l : LocId) (ms : List Module) (v : PlaceView) → (stage_of l == 0) ≡ true → may_leave l ms v ≡ true → (is_work_place l ≡ false) × (l ≡ v.slot)
-in_slot (Slot p k) ms v stage leaves =
+-- what may leave a slot is in its own
+in_slot : (l : LocId) (ms : List Module) (v : PlaceView) → is_work_place l ≡ false → may_leave l ms v ≡ true → l ≡ v.slot
+in_slot (Slot p k) ms v rests leaves =
     let parts = and_true (is_same (Slot p k) v.slot && not v.finished) v.may_start leaves in
-    (refl, same_is (Slot p k) v.slot (and_true (is_same (Slot p k) v.slot) (not v.finished) parts.0).0)
-in_slot Aligner ms v stage leaves = absurd (true≢false (sym stage))
-in_slot Arm ms v stage leaves = absurd (true≢false (sym leaves))
-in_slot (Chamber c) ms v stage leaves = absurd (true≢false (sym stage))
+    same_is (Slot p k) v.slot (and_true (is_same (Slot p k) v.slot) (not v.finished) parts.0).0
+in_slot Aligner ms v rests leaves = absurd (true≢false rests)
+in_slot Arm ms v rests leaves = absurd (true≢false rests)
+in_slot (Chamber c) ms v rests leaves = absurd (true≢false rests)
 
-stage_rests : (l : LocId) → is_work_place l ≡ false → (stage_of l == 0) ≡ true
-stage_rests (Slot p k) rests = refl
-stage_rests Aligner rests = absurd (true≢false rests)
-stage_rests Arm rests = refl
-stage_rests (Chamber c) rests = absurd (true≢false rests)
+-- one is picked by a substrate
+pub record IsPicked (f : ToolFloor) (ms : List Module) (w : PlaceView) : Type 0 where
+  place : ℕ
+  s : Substrate
+  at : slice_get f.substrates place ≡ Some s
+  number : s.number ≡ w.number
+  is : slot_pick s f ms ≡ Some w
 
-module _ (f : ToolFloor) (places : ArePlaces f.places) (ms : List Module) (given : ℕ) (numbers : RiseTo 0 given f.substrates) where
-  -- what is picked by a substrate
-  abbrev gives : Substrate → Option PlaceView
-  gives s = slot_pick s f ms
+-- where none is picked from a slot, none is picked by a substrate
+pub slot_none : (f : ToolFloor) (ms : List Module) → first_in_slot f ms ≡ None → (w : PlaceView) → IsPicked f ms w → ⊥
+slot_none f ms e w picked =
+    let none = none_gives (λ (s : Substrate). slot_pick s f ms) f.substrates e picked.place picked.s picked.at in
+    let some = picked.is in
+    cc
 
-  -- what is useful at stage 0 is picked by its substrate
-  record IsPicked (w : PlaceView) : Type 0 where
-    place : ℕ
-    s : Substrate
-    at : slice_get f.substrates place ≡ Some s
-    number : s.number ≡ w.number
-    is : gives s ≡ Some w
-
-  picked_by : (i : ℕ) (w : PlaceView) → slice_get (views f) i ≡ Some w → is_useful_at 0 (views f) ms w ≡ true → IsPicked w
-  picked_by i w at h =
+module _ (f : ToolFloor) (places : ArePlaces f.places) (ms : List Module) where
+  -- what is useful in a slot is picked by its substrate
+  pub picked_by : (i : ℕ) (w : PlaceView) → slice_get (views f) i ≡ Some w → is_work_place w.at ≡ false → is_useful (views f) ms w ≡ true → IsPicked f ms w
+  picked_by i w at rests useful =
       let t = view_is f places i w at in
-      let parts = and_true (stage_of w.at == 0) (is_useful (views f) ms w) h in
-      let leaves = (and_true (may_leave w.at ms w) _ parts.1).0 in
-      let slot = in_slot w.at ms w parts.0 leaves in
+      let slot = in_slot w.at ms w rests (useful_leaves (views f) ms w w.at refl useful) in
       let found = numbered_place t.r.number f.substrates t.s t.kept in
       let place : t.r.at ≡ w.at = ap (λ (x : PlaceView). x.at) t.is in
       let own : t.s.slot ≡ w.slot = ap (λ (x : PlaceView). x.slot) t.is in
-      let stands : t.r.at ≡ t.s.slot = place ∙ slot.1 ∙ sym own in
+      let stands : t.r.at ≡ t.s.slot = place ∙ slot ∙ sym own in
       let there : find (stands_at t.s.slot) f.places.held ≡ Some t.r =
       subst (λ (l : LocId). find (stands_at l) f.places.held ≡ Some t.r) stands (place_found f places t.place t.r t.held) in
       let told_is : told_in_slot t.s f ≡ Some w =
       is_there t.s f.jobs (find (stands_at t.s.slot) f.places.held) t.r there found.1 ∙ ap (λ (x : PlaceView). Some x) t.is in
-      let rests : is_work_place t.s.slot ≡ false = subst (λ (l : LocId). is_work_place l ≡ false) (sym place ∙ stands) slot.0 in
+      let home : is_work_place t.s.slot ≡ false = subst (λ (l : LocId). is_work_place l ≡ false) (sym place ∙ stands) rests in
       record {
         place = found.0.0;
         s = t.s;
         at = found.0.1;
         number = found.1 ∙ ap (λ (x : PlaceView). x.number) t.is;
-        is = rw rests (where_is (views f) ms (told_in_slot t.s f) w told_is parts.1);
+        is = rw home (where_is (views f) ms (told_in_slot t.s f) w told_is useful);
       }
 
-  -- and what is picked by a substrate is useful at stage 0
-  record IsUseful (s : Substrate) (v : PlaceView) : Type 0 where
-    there : (i : ℕ) × (slice_get (views f) i ≡ Some v)
-    number : v.number ≡ s.number
-    passes : is_useful_at 0 (views f) ms v ≡ true
+module _ (f : ToolFloor) (places : ArePlaces f.places) (ms : List Module) (given : ℕ) (numbers : RiseTo 0 given f.substrates) where
+  abbrev gives : Substrate → Option PlaceView
+  gives s = slot_pick s f ms
 
-  useful_by : (k : ℕ) (s : Substrate) (v : PlaceView) → slice_get f.substrates k ≡ Some s → gives s ≡ Some v → IsUseful s v
+  -- a useful pick from a slot
+  pub record IsInSlot (v : PlaceView) : Type 0 where
+    pub there : (i : ℕ) × (slice_get (views f) i ≡ Some v)
+    pub rests : is_work_place v.at ≡ false
+    pub useful : is_useful (views f) ms v ≡ true
+
+  -- what is picked by a substrate is one, with its number
+  useful_by : (k : ℕ) (s : Substrate) (v : PlaceView) → slice_get f.substrates k ≡ Some s → gives s ≡ Some v → IsInSlot v × (v.number ≡ s.number)
   useful_by k s v at e = of (is_work_place s.slot) refl e where
-    of : (b : Bool) → is_work_place s.slot ≡ b → cond b None (where_useful (views f) ms (told_in_slot s f)) ≡ Some v → IsUseful s v
+    of : (b : Bool) → is_work_place s.slot ≡ b → cond b None (where_useful (views f) ms (told_in_slot s f)) ≡ Some v → IsInSlot v × (v.number ≡ s.number)
     of true q g = absurd (cc)
     of false q g =
         let useful = where_found (views f) ms (told_in_slot s f) v g in
@@ -266,51 +262,29 @@ module _ (f : ToolFloor) (places : ArePlaces f.places) (ms : List Module) (given
         subst (λ (n : ℕ). substrate_numbered n f.substrates ≡ Some s) (sym there.2) (numbered_at 0 given f.substrates k s numbers at) in
         let held : holder s.slot (views f) ≡ Some v =
         holder_is f places s.slot ∙ ap (λ (o : Option Registered). told_of o f) there.1 ∙ ap (λ (o : Option Substrate). told_as there.0 o) kept ∙ ap (λ (x : PlaceView). Some x) there.3 in
-        let place = holder_there s.slot (views f) v held in
-        let stage : (stage_of v.at == 0) ≡ true = subst (λ (l : LocId). (stage_of l == 0) ≡ true) (sym place.1) (stage_rests s.slot q) in
-        record {
-          there = place.0;
-          number = ap (λ (x : PlaceView). x.number) (sym there.3) ∙ there.2;
-          passes = both (stage_of v.at == 0) (is_useful (views f) ms v) stage useful.1;
-        }
+        let place = holder_there s.slot (views f) v held in (
+          record { there = place.0; rests = subst (λ (l : LocId). is_work_place l ≡ false) (sym place.1) q; useful = useful.1 },
+          ap (λ (x : PlaceView). x.number) (sym there.3) ∙ there.2,
+        )
       where
         told_as : Registered → Option Substrate → Option PlaceView
         told_as r o = option_map (told f.jobs r) o
 
-  pub slots_are : first_given gives f.substrates ≡ stage_pick 0 (views f) ms
-  slots_are = of (first_given gives f.substrates) refl where
-    of : (o : Option PlaceView) → first_given gives f.substrates ≡ o → first_given gives f.substrates ≡ stage_pick 0 (views f) ms
-    of None e =
-        e
-        ∙ sym (no_pick (is_useful_at 0 (views f) ms) (views f) (λ i w at. by_test i w at (is_useful_at 0 (views f) ms w) refl))
-      where
-        by_test : (i : ℕ) (w : PlaceView) → slice_get (views f) i ≡ Some w → (t : Bool) → is_useful_at 0 (views f) ms w ≡ t → is_useful_at 0 (views f) ms w ≡ false
-        by_test i w at true q =
-            let picked = picked_by i w at q in
-            let none = none_gives gives f.substrates e picked.place picked.s picked.at in
-            let some = picked.is in
-            absurd (cc)
-        by_test i w at false q = q
-    of (Some v) e =
-        let first = first_is gives f.substrates v e in
-        let useful = useful_by first.place first.s v first.at first.is in
-        e
-        ∙ sym (the_pick (is_useful_at 0 (views f) ms) 0 (views f) useful.there.0 v (views_rise f places) useful.there.1 useful.passes (λ j w at h. later first useful j w at h))
-      where
-        later : (first : IsFirst gives f.substrates v) → IsUseful first.s v → (j : ℕ) (w : PlaceView) → slice_get (views f) j ≡ Some w → is_useful_at 0 (views f) ms w ≡ true → v.number ≤ w.number
-        later first useful j w at h =
-            let picked = picked_by j w at h in
-            by_place picked (nat_lt picked.place first.place) refl
-          where
-            by_place : (picked : IsPicked w) (t : Bool) → nat_lt picked.place first.place ≡ t → v.number ≤ w.number
-            by_place picked true q =
-                let less : picked.place < first.place = grind (arith, nat_tests) in
-                let none = first.before picked.place picked.s less picked.at in
-                let some = picked.is in
-                absurd (cc)
-            by_place picked false q =
-                let behind : first.place ≤ picked.place = grind (arith, nat_tests) in
-                let order = in_order 0 given f.substrates first.place picked.place first.s picked.s numbers first.at picked.at behind in
-                let left = useful.number in
-                let right = picked.number in
-                omega (arith, order, left, right)
+  -- the first that is picked from a slot has the least number of those that are picked by substrates
+  pub slot_first : (v : PlaceView) → first_in_slot f ms ≡ Some v → IsInSlot v × ((w : PlaceView) → IsPicked f ms w → v.number ≤ w.number)
+  slot_first v e =
+      let first = first_is gives f.substrates v e in
+      let own = useful_by first.place first.s v first.at first.is in
+      (own.0, λ w picked. by_place first own.1 w picked (nat_lt picked.place first.place) refl)
+    where
+      by_place : (first : IsFirst gives f.substrates v) → v.number ≡ first.s.number → (w : PlaceView) (picked : IsPicked f ms w) (t : Bool) → nat_lt picked.place first.place ≡ t → v.number ≤ w.number
+      by_place first left w picked true q =
+          let less : picked.place < first.place = grind (arith, nat_tests) in
+          let none = first.before picked.place picked.s less picked.at in
+          let some = picked.is in
+          absurd (cc)
+      by_place first left w picked false q =
+          let behind : first.place ≤ picked.place = grind (arith, nat_tests) in
+          let order = in_order 0 given f.substrates first.place picked.place first.s picked.s numbers first.at picked.at behind in
+          let right = picked.number in
+          omega (arith, order, left, right)

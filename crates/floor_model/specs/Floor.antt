@@ -1,7 +1,8 @@
 -- The floor of the tool: its load ports and carriers, its modules, and its substrates with their places (after SEMI E87 and SEMI E90;
 -- this tool's profile, carriers, substrates and moves).
-use Rattle.std.specs.Prelude.{ℕ, zero, suc, ◌+◌, ◌≤◌, ◌==◌, nat_lt, ◌&&◌, if◌then◌else◌, List, [], ◌∷◌, ◌++◌, codes, find, replicate, Option, Some, None, slice_get}
+use Rattle.std.specs.Prelude.{ℕ, zero, suc, ◌+◌, ◌≤◌, nat_lt, ◌&&◌, if◌then◌else◌, List, [], ◌∷◌, ◌++◌, codes, replicate, Option, Some, None, slice_get}
 use Rattle.gem_tables.specs.Table.{update_at}
+use Rattle.records.specs.Numbers as numbered
 use Rattle.gem_ids.specs.declared.numbers.LocId.{LocId}
 use Rattle.gem_ids.specs.declared.numbers.LocId.TheVariants.{Slot, Aligner, Arm, Chamber}
 use Rattle.gem_ids.specs.Names.{two_digits}
@@ -71,14 +72,17 @@ abbrev pub change_location : ℕ → (LocationRecord → LocationRecord) → Lis
 change_location zero change locations = locations
 change_location (suc n) change locations = update_at n change locations
 
+-- the number of a substrate
+abbrev pub number_of : Substrate → ℕ
+number_of s = s.number
+
 -- the substrate of a number of registration
 abbrev pub substrate_numbered : ℕ → List Substrate → Option Substrate
-substrate_numbered n substrates = find (λ s. s.number == n) substrates
+substrate_numbered n substrates = numbered.record_numbered number_of n substrates
 
 -- a change of the substrate of a number of registration; where there is none, nothing changes
 abbrev pub change_numbered : ℕ → (Substrate → Substrate) → List Substrate → List Substrate
-change_numbered n change [] = []
-change_numbered n change (s ∷ ss) = if s.number == n then change s ∷ ss else s ∷ change_numbered n change ss
+change_numbered n change substrates = numbered.change_numbered number_of n change substrates
 
 -- ---- objects and their names
 
@@ -90,10 +94,6 @@ module_numbers n (m ∷ ms) = n ∷ module_numbers (n + 1) ms
 abbrev pub location_numbers : ℕ → List LocationRecord → List ℕ
 location_numbers n [] = []
 location_numbers n (l ∷ ls) = n ∷ location_numbers (n + 1) ls
-
--- the number of a substrate
-abbrev pub number_of : Substrate → ℕ
-number_of s = s.number
 
 -- the name of a place: a slot's is that of its port, a point and two digits, as P1.01; a tool has fewer than ten ports and
 -- chambers, and one that no tool has has no name (this tool's profile, object names)

@@ -1,7 +1,8 @@
 -- What the floor tells of one substrate, and which of its picks are useful (this tool's profile, moves).
-use Rattle.std.specs.Prelude.{ℕ, ◌-◌, ◌==◌, Bool, not, ◌&&◌, ◌||◌, if◌then◌else◌, List, find, Option, Some, None, option_map}
+use Rattle.std.specs.Prelude.{ℕ, zero, suc, ◌+◌, ◌-◌, ◌==◌, Bool, not, ◌&&◌, ◌||◌, if◌then◌else◌, List, [], ◌∷◌, length, find, Option, Some, None, option_map}
+use Rattle.std.specs.Option.{option_or}
 use Rattle.gem_ids.specs.declared.numbers.LocId.{LocId}
-use Rattle.gem_ids.specs.declared.numbers.LocId.TheVariants.{Chamber}
+use Rattle.gem_ids.specs.declared.numbers.LocId.TheVariants.{Aligner, Chamber}
 use Rattle.substrate.specs.Locations.{is_work_place}
 use Rattle.substrate.specs.Places.{stands_at}
 use Rattle.substrate.specs.Record.{is_finished}
@@ -61,6 +62,24 @@ abbrev pub better_of : Option PlaceView → Option PlaceView → Option PlaceVie
 better_of best None = best
 better_of best (Some v) = Some (better best v)
 
+-- in front of others, where it is there
+abbrev pub put_front : Option PlaceView → List PlaceView → List PlaceView
+put_front None vs = vs
+put_front (Some v) vs = v ∷ vs
+
+-- what so many numbers give, from one on
+abbrev pub given_by : (ℕ → Option PlaceView) → ℕ → ℕ → List PlaceView
+given_by gives number zero = []
+given_by gives number (suc count) = put_front (gives number) (given_by gives (number + 1) count)
+
+-- the picks from all chambers, whose modules are those from 3 on
+abbrev pub chamber_picks : List PlaceView → List Module → List PlaceView
+chamber_picks vs modules = given_by (chamber_pick vs modules) 3 (length modules - 2)
+
+-- the pick from the aligner
+abbrev pub aligner_pick : List PlaceView → List Module → Option PlaceView
+aligner_pick vs modules = pick_at 2 Aligner vs modules
+
 -- What is known without looking where a substrate is: it has a slot and is unfinished, it is aligned or the aligner is free, and its
 -- process job is PROCESSING. Else it isn't picked from its slot.
 abbrev pub may_be_picked : Bool → Substrate → Jobs → Bool
@@ -70,3 +89,12 @@ may_be_picked aligner s w =
 -- a substrate that is in its slot, where its pick is useful
 abbrev pub slot_pick : Substrate → ToolFloor → List Module → Option PlaceView
 slot_pick s f modules = if is_work_place s.slot then None else where_useful (views f) modules (told_in_slot s f)
+
+-- what the first of these substrates gives that gives something
+abbrev pub first_given : (Substrate → Option PlaceView) → List Substrate → Option PlaceView
+first_given gives [] = None
+first_given gives (s ∷ ss) = option_or (gives s) (first_given gives ss)
+
+-- the first useful pick from a slot, in the order of registration
+abbrev pub first_in_slot : ToolFloor → List Module → Option PlaceView
+first_in_slot f modules = first_given (λ s. slot_pick s f modules) f.substrates

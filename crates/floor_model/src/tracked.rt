@@ -1,4 +1,7 @@
+ghost use Rattle.floor_model.specs.Floor.{number_of};
+
 use gem_ids::{LocId, SubstrateId};
+use records::Numbered;
 use substrate::SubstrateRecord;
 
 /// A substrate of a carrier that is here: its number of registration, which is its own for good; its name; the number of creation of
@@ -13,4 +16,12 @@ pub struct Substrate {
     pub states: SubstrateRecord,
     pub aligned: bool,
     pub job: u64,
+}
+
+impl Numbered for Substrate {
+    ghost number = { number_of };
+
+    fn number(&self) -> u64 {
+        self.number
+    }
 }

@@ -1,9 +1,8 @@
 -- What holds of a floor holds of each that says the same of what is kept.
-use Rattle.std.proofs.Common.{◌≡◌, ◌≤◌, ◌<◌, ℕ, Bool, true, false, not, ◌&&◌, ◌||◌, List, Option, Some, sym, ap, subst, ◌∙◌, ◌⊎◌, inl, inr}
-use Rattle.std.proofs.lemmas.Bool.{cases_Bool}
+use Rattle.std.proofs.Common.{◌≡◌, ◌≤◌, ◌<◌, ℕ, Bool, true, not, ◌&&◌, ◌||◌, List, Option, Some, sym, ap, subst, ◌∙◌}
 use Rattle.gem_tables.specs.Table.{is_one_of}
 use Rattle.floor_moves.specs.Floor.{Loc, slot, aligner, arm, chamber, named, Module, Floor, modules, own, is_outside, is_finished, is_done}
-use Rattle.floor_moves.specs.Valid.{Empty, IsDistinct, HasRoom, IsProcessed, Places, Carriers, Commands, Members, Work, Valid}
+use Rattle.floor_moves.specs.Valid.{Empty, IsDistinct, HasRoom, Places, Carriers, Commands, Members, Valid}
 use Rattle.floor_moves.specs.Agree.{Agree}
 
 module _ (g h : Floor) (a : Agree g h) where
@@ -130,20 +129,11 @@ module _ (g h : Floor) (a : Agree g h) where
     done_same : (n : ℕ) → is_one_of g.substrates n ≡ true → is_done n h ≡ is_done n g
     done_same n i = ap (λ (b : Bool). b && not (is_outside (h.place_of n))) (finished_same n i) ∙ ap (λ (p : Option Loc). is_finished (g.processing n) && not (is_outside p)) (a.place_of n)
 
-  work_on : Work g → Work h
-  work_on v = record {
-    in_process = λ n e. by n e (cases_Bool (is_one_of g.substrates n));
-    removed = λ n e gone. let i = kept_back n e in finished_same n i ∙ v.removed n i (place_back n _ gone);
-  } where
-    by : (n : ℕ) → h.processing n ≡ 1 → (is_one_of g.substrates n ≡ true) ⊎ (is_one_of g.substrates n ≡ false) → IsProcessed n h
-    by n e (inl i) = let w = v.in_process n (sym (a.processing n i) ∙ e) in (w.0, w.1, busy_on w.0 _ w.2, w.3)
-    by n e (inr i) = absurd (a.unknown n i e)
-
   pub agree-keeps : Valid g → Valid h
   agree-keeps v = record {
     places = places_on v.places;
     carriers = carriers_on v.carriers;
     commands = commands_on v.places v.commands;
     members = members_on v.carriers v.members;
-    work = work_on v.work;
+    removed = λ n e gone. let i = kept_back n e in finished_same n i ∙ v.removed n i (place_back n _ gone);
   }

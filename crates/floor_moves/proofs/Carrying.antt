@@ -13,9 +13,6 @@ use Rattle.floor_moves.proofs.Promised.{no_member}
 
 -- ---- the beginning
 
-abbrev pub IsOne : ℕ → Type 0
-IsOne k = k ≡ 1
-
 pub opening-valid : (chambers : _) → Valid (opening chambers)
 opening-valid chambers = record {
   places = record {
@@ -53,10 +50,7 @@ opening-valid chambers = record {
     here = λ n e. absurd (cc);
     complete = λ n e f. absurd (cc);
   };
-  work = record {
-    in_process = λ n e. absurd (let z : IsOne 0 = e in omega (arith, z));
-    removed = λ n a e. absurd (cc);
-  };
+  removed = λ n a e. absurd (cc);
 } where
   nowhere : (l : Loc) → None ≡ Some l → ⊥
   nowhere l e = cc
@@ -85,7 +79,7 @@ created-keeps g c new v = record {
     here = λ n is. set_both c (g.carrier_of n) 0 g.access (λ a. a ≤ 1) (λ same. omega arith) (λ other. v.members.here n is);
     complete = v.members.complete;
   };
-  work = v.work;
+  removed = v.removed;
 } where
   its : (n : ℕ) → is_one_of g.substrates n ≡ true → g.carrier_of n ≡ c → ⊥
   its n kept same = let t = v.carriers.known (g.carrier_of n) (g.port_of n) (v.carriers.present n kept) in let u : is_one_of g.carriers c ≡ true = subst (λ (d : ℕ). is_one_of g.carriers d ≡ true) same t in cc
@@ -112,7 +106,7 @@ arrived-keeps g c p may v = record {
   };
   commands = v.commands;
   members = v.members;
-  work = v.work;
+  removed = v.removed;
 } where
   its : (n : ℕ) → is_one_of g.substrates n ≡ true → g.carrier_of n ≡ c → ⊥
   its n kept same = let t : g.present_at c ≡ Some (g.port_of n) = ap g.present_at (sym same) ∙ v.carriers.present n kept in let z : None ≡ Some (g.port_of n) = sym may.is_absent ∙ t in cc
@@ -148,7 +142,7 @@ verified-keeps g c v = record {
   };
   commands = v.commands;
   members = v.members;
-  work = v.work;
+  removed = v.removed;
 }
 
 -- ---- process jobs go on
@@ -178,7 +172,7 @@ jobs_say-keeps g view may v = record {
     modules = v.commands.modules;
   };
   members = may.right;
-  work = v.work;
+  removed = v.removed;
 } where
   recipe : (m n : ℕ) (l : Loc) (c : Command) → g.equipment m ≡ busy c → c.task ≡ pick n l → view.chambers_of n ≡ g.jobs.chambers_of n
   recipe m n l c e t = let its : named c.task ≡ n = ap named t in subst (λ (k : ℕ). view.chambers_of k ≡ g.jobs.chambers_of k) its (may.named_same m c e)
@@ -295,10 +289,7 @@ module _ (g : Floor) (v : Valid g) (c : ℕ) (ends : HasEnded c g) where
       here = v.members.here;
       complete = λ n is over. ap (λ (x : Option Loc). is_finished (g.processing n) && not (is_outside x)) (stays_there n (not_its n is)) ∙ v.members.complete n is over;
     };
-    work = record {
-      in_process = v.work.in_process;
-      removed = λ n a gone. let w = was_kept n a in v.work.removed n w.0 (sym (stays_there n (other_carrier n w.1)) ∙ gone);
-    };
+    removed = λ n a gone. let w = was_kept n a in v.removed n w.0 (sym (stays_there n (other_carrier n w.1)) ∙ gone);
   } where
     outside_was : (n : ℕ) → is_outside (rest.place_of n) ≡ true → is_outside (g.place_of n) ≡ true
     outside_was n out = by (g.carrier_of n == c) out

@@ -1,39 +1,24 @@
 -- Rows that change one state alone.
-use Rattle.std.proofs.Common.{◌≡◌, ℕ, ◌==◌, Bool, true, false, not, ◌&&◌, ◌||◌, None, refl, sym, ap, subst, ◌∙◌, ◌⊎◌, inl, inr, arith}
+use Rattle.std.proofs.Common.{◌≡◌, ℕ, ◌==◌, Bool, true, false, not, ◌&&◌, ◌||◌, refl, sym, ap, subst, ◌∙◌, ◌⊎◌, inl, inr}
 use Rattle.std.proofs.lemmas.Bool.{false_from_ne_true, cases_Bool}
 use Rattle.std.proofs.lemmas.Bool.Decides.{Decides-eqb}
-use Rattle.gem_tables.specs.Table.{is_one_of}
 use Rattle.floor_moves.specs.Floor.{Loc, slot, pick, process, Command, busy, Floor, set, is_outside, is_finished, is_done}
 use Rattle.floor_moves.specs.Effects.{transported, worked}
-use Rattle.floor_moves.specs.Valid.{IsProcessed, HasRoom, Places, Carriers, Commands, Members, Valid}
-use Rattle.floor_moves.proofs.Maps.{set_tells, set_both}
+use Rattle.floor_moves.specs.Valid.{HasRoom, Valid}
+use Rattle.floor_moves.proofs.Maps.{set_both}
 
 -- ---- table 12: nothing reads the states of transport
 
 pub transported-keeps : (g : Floor) (n state : ℕ) → Valid g → Valid (transported n state g)
-transported-keeps g n state v = record { places = v.places; carriers = v.carriers; commands = v.commands; members = v.members; work = v.work }
+transported-keeps g n state v = record { places = v.places; carriers = v.carriers; commands = v.commands; members = v.members; removed = v.removed }
 
 -- ---- table 13
 
--- all that holds, but that the substrate may be IN PROCESS without an open Process
-pub record WorkBut (n : ℕ) (g : Floor) : Type 0 where
-  pub places : Places g
-  pub carriers : Carriers g
-  pub commands : Commands g
-  pub members : Members g
-  pub in_process : (k : ℕ) → (k ≡ n → ⊥) → g.processing k ≡ 1 → IsProcessed k g
-  pub removed : (k : ℕ) → is_one_of g.substrates k ≡ true → g.place_of k ≡ None → is_finished (g.processing k) ≡ true
-
-pub work_but : (n : ℕ) (g : Floor) → Valid g → WorkBut n g
-work_but n g v = record { places = v.places; carriers = v.carriers; commands = v.commands; members = v.members; in_process = λ k other. v.work.in_process k; removed = v.work.removed }
-
--- It stays finished; one that an open Pick from its slot or an open Process names is not finished; it is IN PROCESS where an
--- open Process names it.
+-- it stays finished, and one that an open Pick from its slot or an open Process names is not finished
 pub record MayWork (n state : ℕ) (g : Floor) : Type 0 where
   pub stays : is_finished (g.processing n) ≡ true → is_finished state ≡ true
   pub picked : (m p k : ℕ) (c : Command) → g.equipment m ≡ busy c → c.task ≡ pick n (slot p k) → is_finished state ≡ false
   pub processed : (m : ℕ) (c : Command) → g.equipment m ≡ busy c → c.task ≡ process n → is_finished state ≡ false
-  pub in_process : state ≡ 1 → IsProcessed n g
 
 module _ (g : Floor) (n state : ℕ) (may : MayWork n state g) where
   -- what was finished is finished
@@ -65,8 +50,8 @@ module _ (g : Floor) (n state : ℕ) (may : MayWork n state g) where
       by (inl t) f = let s = finished_stays k t in ap (λ (x : Bool). x && not (is_outside (g.place_of k))) s ∙ sym (ap (λ (x : Bool). x && not (is_outside (g.place_of k))) t) ∙ f
       by (inr t) f = absurd (cc)
 
-  pub but-worked-keeps : WorkBut n g → Valid (worked n state g)
-  but-worked-keeps v = record {
+  pub worked-keeps : Valid g → Valid (worked n state g)
+  worked-keeps v = record {
     places = v.places;
     carriers = v.carriers;
     commands = record {
@@ -107,17 +92,8 @@ module _ (g : Floor) (n state : ℕ) (may : MayWork n state g) where
       here = v.members.here;
       complete = λ k is over. done_stays k (v.members.complete k is over);
     };
-    work = record {
-      in_process = λ k e. by_process k (set_tells n k state g.processing 1 e);
-      removed = λ k known gone. finished_stays k (v.removed k known gone);
-    };
-  } where
-    by_process : (k : ℕ) → ((k ≡ n) × (state ≡ 1)) ⊎ ((k ≡ n → ⊥) × (g.processing k ≡ 1)) → (m : ℕ) × (c : Command) × (g.equipment m ≡ busy c) × (c.task ≡ process k)
-    by_process k (inl t) = let w = may.in_process t.1 in (w.0, w.1, w.2, w.3 ∙ ap (λ (i : ℕ). process i) (sym t.0))
-    by_process k (inr t) = v.in_process k t.0 t.1
-
-  pub worked-keeps : Valid g → Valid (worked n state g)
-  worked-keeps v = but-worked-keeps (work_but n g v)
+    removed = λ k known gone. finished_stays k (v.removed k known gone);
+  }
 
 -- the row of a substrate that is registered, which is NEEDS PROCESSING then
 pub needing-keeps : (g : Floor) (n : ℕ) → (g.processing n == 0) ≡ true → Valid g → Valid (worked n 0 g)
@@ -125,7 +101,6 @@ needing-keeps g n zero_ v = worked-keeps g n 0 (record {
   stays = λ f. absurd (unfinished f);
   picked = λ m p k c e u. refl;
   processed = λ m c e u. refl;
-  in_process = λ one. absurd (omega (arith, one));
 }) v
   where
     unfinished : is_finished (g.processing n) ≡ true → ⊥

@@ -1,24 +1,23 @@
 -- The direct rows of Done, and of a substrate that is lost, keep what holds.
-use Rattle.std.proofs.Common.{◌≡◌, ℕ, Bool, true, false, not, ◌&&◌, ◌||◌, Option, Some, None, refl, sym, ap, subst, ◌∙◌, ◌⊎◌, inl, inr, arith}
+use Rattle.std.proofs.Common.{◌≡◌, ℕ, Bool, true, not, ◌&&◌, ◌||◌, Option, Some, None, refl, sym, ap, subst, ◌∙◌, ◌⊎◌, inl, inr}
 use Rattle.floor_moves.specs.Floor.{Loc, slot, aligner, arm, chamber, pick, place, align, process, named, Command, Module, idle, busy, Floor, is_outside, is_finished, is_done}
 use Rattle.floor_moves.specs.Effects.{turned, moved, aligned, lost, worked}
-use Rattle.floor_moves.specs.Valid.{Empty, IsUnnamed, HasRoom, PickStands, PlaceStands, Valid, ValidBut}
+use Rattle.floor_moves.specs.Valid.{Empty, IsUnnamed, HasRoom, PickStands, PlaceStands, Valid}
 use Rattle.floor_moves.proofs.Maps.{set_tells, set_here, set_else, set_both}
-use Rattle.floor_moves.proofs.Columns.{WorkBut, MayWork, but-worked-keeps}
-use Rattle.floor_moves.proofs.Issuing.{left_open, turned-but}
+use Rattle.floor_moves.proofs.Columns.{worked-keeps}
+use Rattle.floor_moves.proofs.Issuing.{left_open}
 use Rattle.floor_moves.proofs.Facts.{outside_not_done, picked_not_done}
-use Rattle.floor_moves.proofs.Moving.{idle_not_busy, stays_empty, moved_places, moved_commands, moved_members, moved_work}
-use Rattle.floor_moves.proofs.Carrying.{IsOne}
+use Rattle.floor_moves.proofs.Moving.{idle_not_busy, stays_empty, moved_places, moved_commands, moved_members, moved_removed}
 
 -- ---- Done of a Pick
 
 pub done_pick-keeps : (g : Floor) (m n : ℕ) (l : Loc) (c : Command) → g.equipment m ≡ busy c → c.task ≡ pick n l → Valid g → Valid (moved n arm m g)
 done_pick-keeps g m n l c is t v = record {
-  places = moved_places g m n arm c is s.robot names none v (v.places.kept n l s.stands) s.free (λ p k e. absurd (cc)) (λ d e. absurd (cc));
+  places = moved_places g m n arm c is s.robot names v (v.places.kept n l s.stands) s.free (λ p k e. absurd (cc)) (λ d e. absurd (cc));
   carriers = v.carriers;
-  commands = moved_commands g m n arm c is s.robot names none v room;
-  members = moved_members g m n arm c is s.robot names none v (picked_not_done g m n l s);
-  work = moved_work g m n arm c is s.robot names none v;
+  commands = moved_commands g m n arm c is s.robot names v room;
+  members = moved_members g m n arm c is s.robot names v (picked_not_done g m n l s);
+  removed = moved_removed g m n arm c is s.robot names v;
 } where
   s : PickStands m n l g
   s = v.commands.picks m n l c is t
@@ -26,11 +25,8 @@ done_pick-keeps g m n l c is t v = record {
   names : named c.task ≡ n
   names = ap named t
 
-  none : (k : ℕ) → c.task ≡ process k → ⊥
-  none k e = let two : pick n l ≡ process k = sym t ∙ e in cc
-
   empty : (x : Loc) → (x ≡ arm → ⊥) → Empty x g → Empty x (moved n arm m g)
-  empty = stays_empty g m n arm c is s.robot names none v
+  empty = stays_empty g m n arm c is s.robot names v
 
   its_room : HasRoom n (moved n arm m g)
   its_room f = let r = s.room f in record {
@@ -49,20 +45,17 @@ done_pick-keeps g m n l c is t v = record {
 
 pub done_place-keeps : (g : Floor) (m n : ℕ) (l : Loc) (c : Command) → g.equipment m ≡ busy c → c.task ≡ place n l → Valid g → Valid (moved n l m g)
 done_place-keeps g m n l c is t v = record {
-  places = moved_places g m n l c is s.robot names none v (v.places.kept n arm s.stands) s.free (λ p k e. (s.to_slot p k e).0) (λ d e. (s.to_chamber d e).0);
+  places = moved_places g m n l c is s.robot names v (v.places.kept n arm s.stands) s.free (λ p k e. (s.to_slot p k e).0) (λ d e. (s.to_chamber d e).0);
   carriers = v.carriers;
-  commands = moved_commands g m n l c is s.robot names none v room;
-  members = moved_members g m n l c is s.robot names none v (outside_not_done g n (ap is_outside s.stands));
-  work = moved_work g m n l c is s.robot names none v;
+  commands = moved_commands g m n l c is s.robot names v room;
+  members = moved_members g m n l c is s.robot names v (outside_not_done g n (ap is_outside s.stands));
+  removed = moved_removed g m n l c is s.robot names v;
 } where
   s : PlaceStands m n l g
   s = v.commands.places m n l c is t
 
   names : named c.task ≡ n
   names = ap named t
-
-  none : (k : ℕ) → c.task ≡ process k → ⊥
-  none k e = let two : place n l ≡ process k = sym t ∙ e in cc
 
   same_loc : Some l ≡ Some arm → l ≡ arm
   same_loc e = cc
@@ -121,10 +114,7 @@ done_align-keeps g m n c is t v = record {
     here = v.members.here;
     complete = v.members.complete;
   };
-  work = record {
-    in_process = λ k e. still_open k (v.work.in_process k e);
-    removed = v.work.removed;
-  };
+  removed = v.removed;
 } where
   left : (k : ℕ) (d : Command) → (aligned n m g).equipment k ≡ busy d → (k ≡ m → ⊥) × (g.equipment k ≡ busy d)
   left k d e = left_open g m idle idle_not_busy k d e
@@ -141,67 +131,19 @@ done_align-keeps g m n c is t v = record {
   on_arm : (i : ℕ) → g.place_of i ≡ Some arm → i ≡ n → ⊥
   on_arm i at same = let s = v.commands.aligns m n c is t in let two : Some arm ≡ Some aligner = sym at ∙ ap g.place_of same ∙ s.stands in cc
 
-  still_open : (k : ℕ) → (i : ℕ) × (d : Command) × (g.equipment i ≡ busy d) × (d.task ≡ process k) → (i : ℕ) × (d : Command) × ((aligned n m g).equipment i ≡ busy d) × (d.task ≡ process k)
-  still_open k w = (w.0, w.1, set_else m w.0 idle g.equipment (λ same. other_module same) ∙ w.2, w.3)
-    where
-      other_module : w.0 ≡ m → ⊥
-      other_module same =
-          let at : g.equipment m ≡ busy w.1 = subst (λ (x : ℕ). g.equipment x ≡ busy w.1) same w.2 in
-          let two : busy c ≡ busy w.1 = sym is ∙ at in
-          apart two
-        where
-          apart : busy c ≡ busy w.1 → ⊥
-          apart e = let d : c ≡ w.1 = cc in let two : align n ≡ process k = sym t ∙ ap (λ (x : Command). x.task) d ∙ w.3 in cc
-
 -- ---- a Process is closed, by Done, Failed or Down: the substrate is then PROCESSED or ABORTED
 
-pub closed-but : (g : Floor) (m n : ℕ) (c : Command) (behind : Module) → ((d : Command) → behind ≡ busy d → ⊥) → g.equipment m ≡ busy c → c.task ≡ process n → Valid g → ValidBut n (turned m behind g)
-closed-but g m n c behind not_busy is t v = record {
-  places = b.places;
-  carriers = b.carriers;
-  commands = b.commands;
-  members = b.members;
-  unnamed = λ k d e its. let w = left_open g m behind not_busy k d e in w.0 (v.commands.once k m d c w.1 is (its ∙ sym (ap named t)));
-  in_process = b.in_process;
-  removed = b.removed;
-} where
-  only : (k : ℕ) (d : Command) → g.equipment m ≡ busy d → d.task ≡ process k → g.processing k ≡ 1 → k ≡ n
-  only k d e u one = same (sym is ∙ e)
-    where
-      same : busy c ≡ busy d → k ≡ n
-      same e = let x : c ≡ d = cc in let two : process n ≡ process k = sym t ∙ ap (λ (y : Command). y.task) x ∙ u in cc
+-- no open command names its substrate then
+pub closed-unnamed : (g : Floor) (m n : ℕ) (c : Command) (behind : Module) → ((d : Command) → behind ≡ busy d → ⊥) → g.equipment m ≡ busy c → c.task ≡ process n → Valid g → IsUnnamed n (turned m behind g)
+closed-unnamed g m n c behind not_busy is t v k d e its = let w = left_open g m behind not_busy k d e in w.0 (v.commands.once k m d c w.1 is (its ∙ sym (ap named t)))
 
-  b : WorkBut n (turned m behind g)
-  b = turned-but g m behind not_busy n only v
-
-pub but_finished : (g : Floor) (n state : ℕ) → is_finished state ≡ true → ValidBut n g → Valid (worked n state g)
-but_finished g n state finished b = but-worked-keeps g n state may (record {
-  places = b.places;
-  carriers = b.carriers;
-  commands = b.commands;
-  members = b.members;
-  in_process = b.in_process;
-  removed = b.removed;
-}) where
-  may : MayWork n state g
-  may = record {
-    stays = λ e. finished;
-    picked = λ k p q d e u. absurd (b.unnamed k d e (ap named u));
-    processed = λ k d e u. absurd (b.unnamed k d e (ap named u));
-    in_process = λ one. absurd (no_one one);
-  } where
-    no_one : state ≡ 1 → ⊥
-    no_one one = let f : is_finished state ≡ false = ap is_finished one in cc
-
--- one that isn't IN PROCESS has no such row
-pub but_left_out : (g : Floor) (n : ℕ) → (g.processing n ≡ 1 → ⊥) → ValidBut n g → Valid g
-but_left_out g n other b = record {
-  places = b.places;
-  carriers = b.carriers;
-  commands = b.commands;
-  members = b.members;
-  work = record { in_process = λ k e. b.in_process k (λ same. other (ap g.processing (sym same) ∙ e)) e; removed = b.removed };
-}
+-- and it is finished
+pub finished-keeps : (g : Floor) (n state : ℕ) → is_finished state ≡ true → IsUnnamed n g → Valid g → Valid (worked n state g)
+finished-keeps g n state finished unnamed = worked-keeps g n state (record {
+  stays = λ e. finished;
+  picked = λ k p q d e u. absurd (unnamed k d e (ap named u));
+  processed = λ k d e u. absurd (unnamed k d e (ap named u));
+})
 
 -- ---- a substrate is lost
 
@@ -254,10 +196,7 @@ lost-keeps g n out unnamed v = record {
     here = v.members.here;
     complete = λ k is over. done k (v.members.complete k is over);
   };
-  work = record {
-    in_process = λ k e. by_one k (set_tells n k 6 g.processing 1 e);
-    removed = λ k known gone. set_both n k 6 g.processing (λ x. is_finished x ≡ true) (λ same. refl) (λ w. v.work.removed k known (sym (set_else n k None g.place_of w) ∙ gone));
-  };
+  removed = λ k known gone. set_both n k 6 g.processing (λ x. is_finished x ≡ true) (λ same. refl) (λ w. v.removed k known (sym (set_else n k None g.place_of w) ∙ gone));
 } where
   old : (k : ℕ) (x : Loc) → (lost n g).place_of k ≡ Some x → (k ≡ n → ⊥) × (g.place_of k ≡ Some x)
   old k x e = by (set_tells n k None g.place_of (Some x) e)
@@ -295,10 +234,3 @@ lost-keeps g n out unnamed v = record {
 
       there : (k ≡ n → ⊥) → (is_finished (g.processing k) && not (is_outside ((lost n g).place_of k))) ≡ true
       there w = ap (λ (p : Option Loc). is_finished (g.processing k) && not (is_outside p)) (set_else n k None g.place_of w) ∙ e
-
-  by_one : (k : ℕ) → ((k ≡ n) × IsOne 6) ⊎ ((k ≡ n → ⊥) × (g.processing k ≡ 1)) → (m : ℕ) × (c : Command) × (g.equipment m ≡ busy c) × (c.task ≡ process k)
-  by_one k (inl t) = absurd (six t.1)
-    where
-      six : IsOne 6 → ⊥
-      six e = omega arith
-  by_one k (inr t) = v.work.in_process k t.1

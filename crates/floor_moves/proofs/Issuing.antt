@@ -4,8 +4,7 @@ use Rattle.floor_moves.specs.Floor.{Loc, Task, pick, place, align, process, name
 use Rattle.gem_tables.specs.Table.{is_one_of}
 use Rattle.floor_moves.specs.Effects.{issued, turned}
 use Rattle.floor_moves.specs.Valid.{PickStands, PlaceStands, AlignStands, ProcessStands, Valid}
-use Rattle.floor_moves.proofs.Maps.{set_tells, set_else}
-use Rattle.floor_moves.proofs.Columns.{WorkBut}
+use Rattle.floor_moves.proofs.Maps.{set_tells}
 
 -- the module is Idle and the plant's, the substrate is in a job and named by no open command, and the task fits the places
 pub record MayIssue (m : ℕ) (task : Task) (g : Floor) : Type 0 where
@@ -34,9 +33,6 @@ module _ (g : Floor) (m : ℕ) (task : Task) where
       by (inl t) = let e : busy new ≡ busy c = t.1 in inl (t.0, cc)
       by (inr t) = inr t
 
-  still : MayIssue m task g → (k : ℕ) (c : Command) → g.equipment k ≡ busy c → (issued m task g).equipment k ≡ busy c
-  still may k c e = set_else m k (busy new) g.equipment (λ same. let i = may.idles in let at : g.equipment m ≡ busy c = subst (λ (x : ℕ). g.equipment x ≡ busy c) same e in cc) ∙ e
-
   pub issued-keeps : MayIssue m task g → Valid g → Valid (issued m task g)
   issued-keeps may v = record {
     places = v.places;
@@ -61,10 +57,7 @@ module _ (g : Floor) (m : ℕ) (task : Task) where
       here = v.members.here;
       complete = v.members.complete;
     };
-    work = record {
-      in_process = λ n e. let w = v.work.in_process n e in (w.0, w.1, still may w.0 w.1 w.2, w.3);
-      removed = v.work.removed;
-    };
+    removed = v.removed;
   } where
     a_pick : (k n : ℕ) (l : Loc) (c : Command) → c.task ≡ pick n l → Opened k c → PickStands k n l g
     a_pick k n l c t (inl o) = subst (λ (x : ℕ). PickStands x n l g) (sym o.0) (may.picks n l (ap (λ (x : Command). x.task) o.1 ∙ t))
@@ -108,7 +101,7 @@ module _ (g : Floor) (m : ℕ) (task : Task) where
 
 -- ---- a command is closed, and nothing else changes
 
--- a module that is not working on a substrate, to Idle or Down
+-- a module to Idle or Down
 module _ (g : Floor) (m : ℕ) (state : Module) (not_busy : (c : Command) → state ≡ busy c → ⊥) where
   -- what is open then was open, at another module
   pub left_open : (k : ℕ) (c : Command) → (turned m state g).equipment k ≡ busy c → (k ≡ m → ⊥) × (g.equipment k ≡ busy c)
@@ -118,9 +111,8 @@ module _ (g : Floor) (m : ℕ) (state : Module) (not_busy : (c : Command) → st
       by (inl t) = absurd (not_busy c t.1)
       by (inr t) = t
 
-  -- all but what the module was processing
-  pub turned-but : (n : ℕ) → ((k : ℕ) (c : Command) → g.equipment m ≡ busy c → c.task ≡ process k → g.processing k ≡ 1 → k ≡ n) → Valid g → WorkBut n (turned m state g)
-  turned-but n only v = record {
+  pub turned-keeps : Valid g → Valid (turned m state g)
+  turned-keeps v = record {
     places = v.places;
     carriers = v.carriers;
     commands = record {
@@ -143,22 +135,5 @@ module _ (g : Floor) (m : ℕ) (state : Module) (not_busy : (c : Command) → st
       here = v.members.here;
       complete = v.members.complete;
     };
-    in_process = λ k other e. open_still k other e (v.work.in_process k e);
-    removed = v.work.removed;
-  } where
-    open_still : (k : ℕ) → (k ≡ n → ⊥) → g.processing k ≡ 1 → (i : ℕ) × (c : Command) × (g.equipment i ≡ busy c) × (c.task ≡ process k) → (i : ℕ) × (c : Command) × ((turned m state g).equipment i ≡ busy c) × (c.task ≡ process k)
-    open_still k other e w = (w.0, w.1, set_else m w.0 state g.equipment (λ same. other (only k w.1 (subst (λ (x : ℕ). g.equipment x ≡ busy w.1) same w.2) w.3 e)) ∙ w.2, w.3)
-
-  -- the module processed nothing
-  pub turned-keeps : ((k : ℕ) (c : Command) → g.equipment m ≡ busy c → c.task ≡ process k → g.processing k ≡ 1 → ⊥) → Valid g → Valid (turned m state g)
-  turned-keeps none v =
-      let but : WorkBut 0 (turned m state g) = turned-but 0 (λ k c e t f. absurd (none k c e t f)) v in
-      record {
-        places = but.places;
-        carriers = but.carriers;
-        commands = but.commands;
-        members = but.members;
-        work = record { in_process = λ k e. open_still k e (v.work.in_process k e); removed = but.removed };
-      } where
-        open_still : (k : ℕ) → g.processing k ≡ 1 → (i : ℕ) × (c : Command) × (g.equipment i ≡ busy c) × (c.task ≡ process k) → (i : ℕ) × (c : Command) × ((turned m state g).equipment i ≡ busy c) × (c.task ≡ process k)
-        open_still k e w = (w.0, w.1, set_else m w.0 state g.equipment (λ same. none k w.1 (subst (λ (x : ℕ). g.equipment x ≡ busy w.1) same w.2) w.3 e) ∙ w.2, w.3)
+    removed = v.removed;
+  }

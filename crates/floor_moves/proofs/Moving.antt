@@ -1,9 +1,9 @@
 -- Done of a Pick, a Place and an Align, and a substrate that is lost.
 use Rattle.std.proofs.Common.{◌≡◌, ℕ, true, false, not, ◌&&◌, Some, None, sym, ap, subst, ◌∙◌, ◌⊎◌, inl, inr}
 use Rattle.gem_tables.specs.Table.{is_one_of}
-use Rattle.floor_moves.specs.Floor.{Loc, slot, aligner, arm, chamber, process, named, Command, idle, busy, Floor, own, is_outside, is_finished, is_done}
+use Rattle.floor_moves.specs.Floor.{Loc, slot, aligner, arm, chamber, named, Command, idle, busy, Floor, own, is_outside, is_finished, is_done}
 use Rattle.floor_moves.specs.Effects.{moved}
-use Rattle.floor_moves.specs.Valid.{Empty, HasRoom, Places, Commands, Members, Work, Valid}
+use Rattle.floor_moves.specs.Valid.{Empty, HasRoom, Places, Commands, Members, Valid}
 use Rattle.floor_moves.proofs.Maps.{set_tells, set_else, set_both}
 use Rattle.floor_moves.proofs.Issuing.{left_open}
 
@@ -11,7 +11,7 @@ pub idle_not_busy : (c : Command) → idle ≡ busy c → ⊥
 idle_not_busy c e = cc
 
 -- what the robot's command is closed by
-module _ (g : Floor) (m n : ℕ) (l : Loc) (c : Command) (is : g.equipment m ≡ busy c) (robot : m ≡ 1) (names : named c.task ≡ n) (no_process : (k : ℕ) → c.task ≡ process k → ⊥) (v : Valid g) where
+module _ (g : Floor) (m n : ℕ) (l : Loc) (c : Command) (is : g.equipment m ≡ busy c) (robot : m ≡ 1) (names : named c.task ≡ n) (v : Valid g) where
   -- an open command behind it was open, is another module's, and names another substrate
   was_open : (k : ℕ) (d : Command) → (moved n l m g).equipment k ≡ busy d → (k ≡ m → ⊥) × (g.equipment k ≡ busy d)
   was_open k d e = left_open g m idle idle_not_busy k d e
@@ -101,19 +101,5 @@ module _ (g : Floor) (m n : ℕ) (l : Loc) (c : Command) (is : g.equipment m ≡
     its_member : (k : ℕ) → k ≡ n → g.jobs.is_member k ≡ true
     its_member k same = ap (λ (i : ℕ). g.jobs.is_member i) (same ∙ sym names) ∙ v.members.named m c is
 
-  pub moved_work : Work (moved n l m g)
-  moved_work = record {
-    in_process = λ k e. still_open k (v.work.in_process k e);
-    removed = λ k known gone. set_both n k (Some l) g.place_of (λ p. p ≡ None → is_finished (g.processing k) ≡ true) (λ same e. absurd (cc)) (λ other e. v.work.removed k known e) gone;
-  } where
-    still_open : (k : ℕ) → (i : ℕ) × (d : Command) × (g.equipment i ≡ busy d) × (d.task ≡ process k) → (i : ℕ) × (d : Command) × ((moved n l m g).equipment i ≡ busy d) × (d.task ≡ process k)
-    still_open k w = (w.0, w.1, set_else m w.0 idle g.equipment (λ same. other same) ∙ w.2, w.3)
-      where
-        other : w.0 ≡ m → ⊥
-        other same =
-            let at : g.equipment m ≡ busy w.1 = subst (λ (x : ℕ). g.equipment x ≡ busy w.1) same w.2 in
-            let two : busy c ≡ busy w.1 = sym is ∙ at in
-            no_process k (task_same two ∙ w.3)
-          where
-            task_same : busy c ≡ busy w.1 → c.task ≡ w.1.task
-            task_same e = let d : c ≡ w.1 = cc in ap (λ (x : Command). x.task) d
+  pub moved_removed : (k : ℕ) → is_one_of g.substrates k ≡ true → (moved n l m g).place_of k ≡ None → is_finished (g.processing k) ≡ true
+  moved_removed k known gone = set_both n k (Some l) g.place_of (λ p. p ≡ None → is_finished (g.processing k) ≡ true) (λ same e. absurd (cc)) (λ other e. v.removed k known e) gone

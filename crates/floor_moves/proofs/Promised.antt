@@ -3,7 +3,7 @@ use Rattle.std.proofs.Common.{◌≡◌, ℕ, true, Some, sym, subst, arith, inl
 use Rattle.std.proofs.lemmas.Bool.{false_from_ne_true}
 use Rattle.floor_moves.specs.Floor.{Loc, Floor, own, is_outside}
 use Rattle.floor_moves.specs.Carriers.{HasEnded}
-use Rattle.floor_moves.specs.Valid.{Empty, Places, Carriers, Commands, Members, Valid, ValidBut}
+use Rattle.floor_moves.specs.Valid.{Empty, Places, Carriers, Members, Valid}
 use Rattle.floor_moves.specs.OnePlace.{IsCarried, OnePlace}
 use Rattle.floor_moves.proofs.Facts.{outside_tells, holds, holder_tells}
 
@@ -21,29 +21,23 @@ pub no_member : (g : Floor) → Carriers g → Members g → (n : ℕ) → HasEn
 no_member g c m n (inl ends) is = let less = m.here n is in omega (arith, less, ends)
 no_member g c m n (inr unread) is = let read = c.verified n (m.kept n is) in cc
 
-one_place_by : (g : Floor) → Places g → Carriers g → Commands g → Members g → OnePlace g
-one_place_by g places carriers commands members = record {
-  apart = places.apart;
-  occupies = λ n l at. holds g places l n at;
-  is_there = λ n l e. holder_tells g places l n e;
-  numbers = commands.numbers;
-  below = commands.below;
-  picks = λ m n l c e t. let s = commands.picks m n l c e t in (s.stands, s.free);
-  places = λ m n l c e t. let s = commands.places m n l c e t in (s.stands, s.free);
-  aligns = λ m n c e t. let s = commands.aligns m n c e t in (s.its_module, s.stands);
-  processes = λ m n c e t. let s = commands.processes m n c e t in (s.0, s.1, s.2);
-  in_slot = λ n p k at. (places.home n p k at, carried n _ at);
-  one_carrier = carriers.alone;
-  slot_waits = λ n out. (own_free g places n out, (let there = outside_tells (g.place_of n) out in carried n there.0 there.1));
-  ended_inside = λ n ends. false_from_ne_true (is_outside (g.place_of n)) (λ out. no_member g carriers members n ends (members.outside n out));
-  ended_unnamed = λ n ends m c e its. no_member g carriers members n ends (subst (λ (k : ℕ). g.jobs.is_member k ≡ true) its (members.named m c e));
+pub one_place : (g : Floor) → Valid g → OnePlace g
+one_place g v = record {
+  apart = v.places.apart;
+  occupies = λ n l at. holds g v.places l n at;
+  is_there = λ n l e. holder_tells g v.places l n e;
+  numbers = v.commands.numbers;
+  below = v.commands.below;
+  picks = λ m n l c e t. let s = v.commands.picks m n l c e t in (s.stands, s.free);
+  places = λ m n l c e t. let s = v.commands.places m n l c e t in (s.stands, s.free);
+  aligns = λ m n c e t. let s = v.commands.aligns m n c e t in (s.its_module, s.stands);
+  processes = λ m n c e t. let s = v.commands.processes m n c e t in (s.0, s.1, s.2);
+  in_slot = λ n p k at. (v.places.home n p k at, carried n _ at);
+  one_carrier = v.carriers.alone;
+  slot_waits = λ n out. (own_free g v.places n out, (let there = outside_tells (g.place_of n) out in carried n there.0 there.1));
+  ended_inside = λ n ends. false_from_ne_true (is_outside (g.place_of n)) (λ out. no_member g v.carriers v.members n ends (v.members.outside n out));
+  ended_unnamed = λ n ends m c e its. no_member g v.carriers v.members n ends (subst (λ (k : ℕ). g.jobs.is_member k ≡ true) its (v.members.named m c e));
 } where
   -- a substrate that is kept has its carrier there
   carried : (n : ℕ) (l : Loc) → g.place_of n ≡ Some l → IsCarried n g
-  carried n l at = (carriers.present n (places.kept n l at), carriers.verified n (places.kept n l at))
-
-pub one_place : (g : Floor) → Valid g → OnePlace g
-one_place g v = one_place_by g v.places v.carriers v.commands v.members
-
-pub one_place_between : (g : Floor) (n : ℕ) → ValidBut n g → OnePlace g
-one_place_between g n b = one_place_by g b.places b.carriers b.commands b.members
+  carried n l at = (v.carriers.present n (v.places.kept n l at), v.carriers.verified n (v.places.kept n l at))

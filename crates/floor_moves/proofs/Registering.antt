@@ -2,12 +2,11 @@
 use Rattle.std.proofs.Common.{◌≡◌, ◌<◌, ℕ, ◌+◌, Bool, true, not, ◌&&◌, ◌||◌, Option, Some, None, refl, sym, ap, subst, ◌∙◌, ◌⊎◌, inl, inr, arith}
 use Rattle.std.proofs.lemmas.Bool.{false_from_ne_true}
 use Rattle.gem_tables.specs.Table.{is_one_of}
-use Rattle.floor_moves.specs.Floor.{Loc, slot, aligner, arm, chamber, process, Command, busy, Floor, set, own, is_outside, is_finished, is_done}
+use Rattle.floor_moves.specs.Floor.{Loc, slot, aligner, arm, chamber, Floor, set, own, is_outside, is_finished, is_done}
 use Rattle.floor_moves.specs.Carriers.{registered, MayRegister}
 use Rattle.floor_moves.specs.Valid.{Empty, HasRoom, Places, Carriers, Commands, Members, Valid}
 use Rattle.floor_moves.proofs.Maps.{set_tells, set_here, set_else, set_both}
 use Rattle.floor_moves.proofs.Scans.{one_of_behind, one_of_front, one_of_last, distinct_behind}
-use Rattle.floor_moves.proofs.Carrying.{IsOne}
 
 module _ (g : Floor) (v : Valid g) (c p k : ℕ) (may : MayRegister c p k g) where
   -- the number of the new substrate
@@ -215,18 +214,11 @@ module _ (g : Floor) (v : Valid g) (c p k : ℕ) (may : MayRegister c p k g) whe
     carriers = new_carriers;
     commands = new_commands;
     members = new_members;
-    work = record {
-      in_process = λ n e. by n (set_tells r n 0 g.processing 1 e);
-      removed = λ n known gone. gone_one n known gone;
-    };
+    removed = gone_one;
   } where
-    by : (n : ℕ) → ((n ≡ r) × IsOne 0) ⊎ ((n ≡ r → ⊥) × (g.processing n ≡ 1)) → (m : ℕ) × (c : Command) × (g.equipment m ≡ busy c) × (c.task ≡ process n)
-    by n (inl t) = let e : IsOne 0 = t.1 in absurd (omega (arith, e))
-    by n (inr t) = v.work.in_process n t.1
-
     gone_one : (n : ℕ) → is_one_of new.substrates n ≡ true → new.place_of n ≡ None → is_finished (new.processing n) ≡ true
     gone_one n known gone = by_known (was_known n known)
       where
         by_known : (n ≡ r) ⊎ (is_one_of g.substrates n ≡ true) → is_finished (new.processing n) ≡ true
         by_known (inl same) = let z : Some (slot p k) ≡ None = sym (set_here r (Some (slot p k)) g.place_of) ∙ ap new.place_of (sym same) ∙ gone in absurd (cc)
-        by_known (inr t) = ap is_finished (same_processing n (not_it n t)) ∙ v.work.removed n t (sym (set_else r n (Some (slot p k)) g.place_of (not_it n t)) ∙ gone)
+        by_known (inr t) = ap is_finished (same_processing n (not_it n t)) ∙ v.removed n t (sym (set_else r n (Some (slot p k)) g.place_of (not_it n t)) ∙ gone)

@@ -8,7 +8,7 @@ use Rattle.floor_moves.specs.Valid.{Empty, HasRoom, Valid, HaveChambers}
 use Rattle.floor_moves.specs.Work.{is_at_work, is_work_left, IsOpen}
 use Rattle.floor_moves.specs.Rest.{HasTarget, AtRest}
 use Rattle.floor_moves.proofs.Scans.{any_tells, any_none}
-use Rattle.floor_moves.proofs.Facts.{is_number, outside_tells}
+use Rattle.floor_moves.proofs.Facts.{outside_tells}
 use Rattle.floor_moves.proofs.Promised.{own_free}
 
 -- nothing is both true and false
@@ -16,9 +16,9 @@ both : (b : Bool) → b ≡ true → b ≡ false → ⊥
 both b e f = cc
 
 module _ (g : Floor) (v : Valid g) (reach : HaveChambers g) (rest : AtRest g) (none : (m : ℕ) (c : Command) → g.equipment m ≡ busy c → ⊥) where
-  -- none is IN PROCESS, so one that doesn't NEED PROCESSING is finished
+  -- one that doesn't NEED PROCESSING is finished
   finished_or_needs : (n : ℕ) → (g.processing n == 0) ≡ false → is_finished (g.processing n) ≡ true
-  finished_or_needs n e = ap not (ap (λ (b : Bool). b || (g.processing n == 1)) e ∙ false_from_ne_true (g.processing n == 1) (λ e. let w = v.work.in_process n (is_number (g.processing n) 1 e) in none w.0 w.1 w.2))
+  finished_or_needs n e = ap not (ap (λ (b : Bool). b || (g.processing n == 1)) e ∙ rest.unprocessed n)
 
   -- ---- there is room where it goes next
 
@@ -89,7 +89,7 @@ module _ (g : Floor) (v : Valid g) (reach : HaveChambers g) (rest : AtRest g) (n
     by : (p : Option Loc) → g.place_of n ≡ p → (is_finished (g.processing n) ≡ true) ⊎ (is_finished (g.processing n) ≡ false) → (is_at_work n g ≡ true) ⊎ (is_at_work n g ≡ false) → ⊥
     by p at (inl f) w = finished f
     by p at (inr f) (inr w) = inside (ap (λ (b : Bool). not b && is_at_work n g) f ∙ w)
-    by None at (inr f) (inl w) = finished (v.work.removed n kept at)
+    by None at (inr f) (inl w) = finished (v.removed n kept at)
     by (Some (slot p k)) at (inr f) (inl w) = finished (finished_in_slot n p k w at)
     by (Some aligner) at (inr f) (inl w) = aligner_empty n at
     by (Some arm) at (inr f) (inl w) = arm_empty n at

@@ -1,6 +1,6 @@
 -- Two floors that say the same of what is kept (this tool's profile, substrates and moves). A column says something of each number,
 -- and what it says of a substrate that was forgotten counts for nothing.
-use Rattle.std.specs.Prelude.{◌≡◌, ℕ, true, false, Option, Some}
+use Rattle.std.specs.Prelude.{◌≡◌, ℕ, true, Option, Some}
 use Rattle.gem_tables.specs.Table.{is_one_of}
 use Rattle.floor_moves.specs.Floor.{JobView, Floor}
 
@@ -15,7 +15,7 @@ pub record SayAlike (present_at : ℕ → Option ℕ) (v w : JobView) : Type 0 w
   pub names_carrier : (c p : ℕ) → present_at c ≡ Some p → w.names_carrier c ≡ v.names_carrier c
   pub is_marked : (c p : ℕ) → present_at c ≡ Some p → w.is_marked c ≡ v.is_marked c
 
--- the same substrates, carriers, jobs, chambers and modules, and the same of each; a number without a substrate is not IN PROCESS
+-- the same substrates, carriers, jobs, chambers and modules, and the same of each
 pub record Agree (g h : Floor) : Type 0 where
   pub substrates : h.substrates ≡ g.substrates
   pub next_substrate : h.next_substrate ≡ g.next_substrate
@@ -24,7 +24,6 @@ pub record Agree (g h : Floor) : Type 0 where
   pub slot_of : (n : ℕ) → is_one_of g.substrates n ≡ true → h.slot_of n ≡ g.slot_of n
   pub place_of : (n : ℕ) → h.place_of n ≡ g.place_of n
   pub processing : (n : ℕ) → is_one_of g.substrates n ≡ true → h.processing n ≡ g.processing n
-  pub unknown : (n : ℕ) → is_one_of g.substrates n ≡ false → h.processing n ≡ 1 → ⊥
   pub is_aligned : (n : ℕ) → is_one_of g.substrates n ≡ true → h.is_aligned n ≡ g.is_aligned n
   pub carriers : h.carriers ≡ g.carriers
   pub present_at : (c : ℕ) → h.present_at c ≡ g.present_at c

@@ -1,5 +1,6 @@
 -- A floor at rest on which no command is open (this tool's profile, tables 13 and 16, and moves). Which row fires when is said by the
--- records of the tool; this is what they leave by numbers where none of rows 1 to 4 of table 16 and row 5 of table 13 is ready.
+-- records of the tool; this is what they leave by numbers where none of rows 1 to 4 of table 16 and row 5 of table 13 is ready, and
+-- where an open Process names each substrate that is IN PROCESS.
 use Rattle.std.specs.Prelude.{◌≡◌, ℕ, ◌==◌, true, false, ◌||◌, Some}
 use Rattle.floor_moves.specs.Floor.{Loc, slot, aligner, arm, chamber, Floor, own, is_finished}
 use Rattle.floor_moves.specs.Valid.{Empty, HasRoom, IsUnnamed}
@@ -24,6 +25,8 @@ pub record AtRest (g : Floor) : Type 0 where
   pub picked : (n : ℕ) (l : Loc) → g.place_of n ≡ Some l → MayLeave n l g → Empty arm g → HasTarget n g → ⊥
   -- row 3: what is unfinished at the aligner is aligned
   pub aligned : (n : ℕ) → g.place_of n ≡ Some aligner → is_finished (g.processing n) ≡ false → g.is_aligned n ≡ false → ⊥
+  -- nothing is IN PROCESS: an open Process would name it
+  pub unprocessed : (n : ℕ) → (g.processing n == 1) ≡ false
   -- row 4: nothing in a chamber NEEDS PROCESSING
   pub processed : (n c : ℕ) → g.place_of n ≡ Some (chamber c) → (g.processing n == 0) ≡ true → ⊥
   -- row 5 of table 13: nothing in its slot NEEDS PROCESSING whose job is STOPPING or ABORTING, and that no open command names

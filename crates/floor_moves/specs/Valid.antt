@@ -101,6 +101,10 @@ abbrev pub ProcessStands : ℕ → ℕ → Floor → Type 0
 ProcessStands m n g =
     (c : ℕ) × (m ≡ chamber_module c) × (g.place_of n ≡ Some (chamber c)) × (is_finished (g.processing n) ≡ false)
 
+-- an open Process names the substrate
+abbrev pub IsProcessed : ℕ → Floor → Type 0
+IsProcessed n g = (m : ℕ) × (c : Command) × (g.equipment m ≡ busy c) × (c.task ≡ process n)
+
 -- what holds of the open commands
 abbrev pub Commands : Floor → Type 0
 Commands g = record {
@@ -140,41 +144,16 @@ Members g = record {
 abbrev pub HaveChambers : Floor → Type 0
 HaveChambers g = (n : ℕ) → g.jobs.is_member n ≡ true → (c : ℕ) × (is_one_of (g.jobs.chambers_of n) c ≡ true) × (is_one_of g.chambers c ≡ true)
 
--- ---- work (after SEMI E90)
-
--- an open Process names the substrate
-abbrev pub IsProcessed : ℕ → Floor → Type 0
-IsProcessed n g = (m : ℕ) × (c : Command) × (g.equipment m ≡ busy c) × (c.task ≡ process n)
-
--- what holds of the states of processing
-abbrev pub Work : Floor → Type 0
-Work g = record {
-  -- an open Process names one that is IN PROCESS
-  in_process : (n : ℕ) → g.processing n ≡ 1 → IsProcessed n g;
-  -- one that is kept and Removed is finished
-  removed : (n : ℕ) → is_one_of g.substrates n ≡ true → g.place_of n ≡ None → is_finished (g.processing n) ≡ true;
-}
-
 -- ---- all of them
 
--- what holds at every moment, but between two direct rows of one input
+-- what holds at every moment
 pub record Valid (g : Floor) : Type 0 where
   pub places : Places g
   pub carriers : Carriers g
   pub commands : Commands g
   pub members : Members g
-  pub work : Work g
-
--- What holds between row 7, 8 or 9 of table 16 and the row of table 13 that follows it: all of that, but that the substrate of
--- the Process which was closed may be IN PROCESS still. No open command names it.
-pub record ValidBut (n : ℕ) (g : Floor) : Type 0 where
-  pub places : Places g
-  pub carriers : Carriers g
-  pub commands : Commands g
-  pub members : Members g
-  pub unnamed : IsUnnamed n g
-  pub in_process : (k : ℕ) → (k ≡ n → ⊥) → g.processing k ≡ 1 → IsProcessed k g
-  pub removed : (k : ℕ) → is_one_of g.substrates k ≡ true → g.place_of k ≡ None → is_finished (g.processing k) ≡ true
+  -- one that is kept and Removed is finished
+  pub removed : (n : ℕ) → is_one_of g.substrates n ≡ true → g.place_of n ≡ None → is_finished (g.processing n) ≡ true
 
 -- ---- what process jobs may say next
 

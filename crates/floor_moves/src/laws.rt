@@ -5,7 +5,7 @@ ghost use Rattle.gem_tables.specs.Table.{is_one_of};
 ghost use Rattle.floor_moves.specs.Floor.{slot, Command, busy, JobView, Floor, opening};
 ghost use Rattle.floor_moves.specs.Effects.{transported, worked};
 ghost use Rattle.floor_moves.specs.Carriers.{created, MayCreate, arrived, MayArrive, verified, registered, MayRegister, AreWithin, forgotten, HasEnded, with_jobs};
-ghost use Rattle.floor_moves.specs.Valid.{Empty, Valid, ValidBut, MaySay, HaveChambers};
+ghost use Rattle.floor_moves.specs.Valid.{Empty, Valid, MaySay, HaveChambers};
 ghost use Rattle.floor_moves.specs.Agree.{Agree};
 ghost use Rattle.floor_moves.specs.OnePlace.{OnePlace};
 ghost use Rattle.floor_moves.specs.Work.{is_work_left, IsOpen};
@@ -41,10 +41,9 @@ pub fn there_is_room_for_each_substrate()
     ensures few { (g : Floor) (ports : ℕ) → Valid g → AreWithin ports g → length g.substrates ≤ 25 * ports }
 {}
 
-/// Each substrate has one place where what holds at every moment holds, and also between the two rows by which a Process is closed.
+/// Each substrate has one place where what holds at every moment holds.
 pub fn each_substrate_has_one_place()
-    ensures places { (g : Floor) → Valid g → OnePlace g }
-    ensures between { (g : Floor) (n : ℕ) → ValidBut n g → OnePlace g }
+    ensures { (g : Floor) → Valid g → OnePlace g }
 {}
 
 /// Where the floor is at rest if no command is open, the recipe of each substrate in a job has a chamber of the tool, and work is left

@@ -12,7 +12,8 @@ use Rattle.gem_model.specs.Step.{step, after}
 use Rattle.floor_model.specs.Floor.{module_numbers}
 use Rattle.gem_model.specs.Run.{after_all}
 use Rattle.tool_events.specs.Sizes.{text_bytes}
-use Rattle.line_grammar.specs.Texts.{lines_of, is_quit}
+use Rattle.text_lines.specs.Lines.{lines_of}
+use Rattle.line_grammar.specs.Texts.{is_quit}
 use Rattle.line_grammar.specs.declared.line.Line.{Line}
 use Rattle.line_grammar.specs.declared.line.Line.TheVariants as line
 use Rattle.line_grammar.specs.Reading.{feed_line_of}

@@ -1,11 +1,12 @@
 -- How many bytes a text of lines gives to each session (this tool's profile, sessions).
 use Rattle.std.specs.Prelude.{ℕ, ◌+◌, if◌then◌else◌, List, [], ◌∷◌, length, Result, Ok, Err}
+use Rattle.text_lines.specs.Lines.{lines_of}
 use Rattle.line_grammar.specs.declared.line.Line.{Line}
 use Rattle.line_grammar.specs.declared.line.Line.TheVariants as line
 use Rattle.line_grammar.specs.Reading.{feed_line_of}
 use Rattle.tool_events.specs.declared.config.Config.{Config}
 use Rattle.gem_model.specs.State.{is_session_up}
-use Rattle.line_grammar.specs.Texts.{lines_of, is_quit}
+use Rattle.line_grammar.specs.Texts.{is_quit}
 use Rattle.gem_model.specs.Feed.{Reading, first_reading, reading_after}
 
 -- the bytes that a line gives to this session: those of the host, where it is the session that is up (this tool's

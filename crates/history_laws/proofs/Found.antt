@@ -13,10 +13,10 @@ use Rattle.substrate.specs.declared.record.LocationRecord.{LocationRecord}
 use Rattle.substrate.specs.declared.record.Occupancy.{Occupancy}
 use Rattle.substrate.specs.declared.record.Occupancy.TheVariants.{Unoccupied, Occupied}
 use Rattle.floor_model.specs.Floor.{ToolFloor, location_at, location_numbers}
-use Rattle.floor_model.specs.Machines.{floor_machines, floor_least, location_ready}
+use Rattle.floor_model.specs.Machines.{floor_least, location_ready}
+use Rattle.floor_model.proofs.AtRest.{none_ready}
 use Rattle.place_laws.specs.Sound.{Sound}
 use Rattle.floor_laws.proofs.EndMoves.{pick_written, place_written}
-use Rattle.work_laws.proofs.Lists.{first_none, none_least}
 use Rattle.history_laws.specs.Found.{is_occupied, AreOccupied, is_met, AreMet}
 
 -- ---- locations
@@ -43,7 +43,7 @@ pub rest-occupied : (f : ToolFloor) → floor_least f ≡ None → AreOccupied f
 rest-occupied f rests zero l there = absurd (cc)
 rest-occupied f rests (suc place) l there =
     let number : is_one_of (location_numbers 1 f.locations) (suc place) ≡ true = subst (λ (n : ℕ). is_one_of (location_numbers 1 f.locations) n ≡ true) (omega arith) (listed_number 1 place f.locations l there) in
-    let none = first_none 11 (λ (n : ℕ). location_ready n (location_at n f.locations) f) (location_numbers 1 f.locations) (none_least floor_machines f rests).1.1.1.1.1.1.1.0 (suc place) number in
+    let none = (none_ready f rests).location (suc place) number in
     said (suc place) l f (subst (λ (o : Option LocationRecord). location_ready (suc place) o f ≡ None) there none)
 
 -- ---- open commands

@@ -6,6 +6,12 @@ pub mod Placed
 pub mod Ordering
 pub mod Carrying
 pub mod Completing
+pub mod Fires
+pub mod CalmRows
+pub mod InputRows
+pub mod CalmInputs
+pub mod CalmDones
+pub mod CompletingByRows
 pub mod Working
 pub mod Moved
 pub mod Found

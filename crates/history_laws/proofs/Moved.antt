@@ -36,7 +36,7 @@ use Rattle.floor_laws.proofs.RemSound.{removal_left_sound}
 use Rattle.floor_laws.proofs.ShopTables.{cancel_sound}
 use Rattle.floor_laws.proofs.ShopHost.{written_sound, unbinding_sound, placing_sound}
 use Rattle.floor_laws.proofs.JobCreated.{created_sound, control_changes_sound}
-use Rattle.floor_laws.proofs.EndBut.{fetched_sound}
+use Rattle.floor_laws.proofs.EndProcess.{fetched_sound}
 use Rattle.floor_laws.proofs.GrowFound.{place_given}
 use Rattle.floor_laws.proofs.GrowPlaces.{Gone, Grown, grown_same, grown_new}
 use Rattle.floor_laws.proofs.GrowRows.{row_grows}

@@ -3,7 +3,7 @@ use Rattle.std.proofs.Common.{◌≡◌, ◌⊎◌, ◌≤◌, ℕ, ◌+◌, ◌
 use Rattle.std.proofs.lemmas.Bool.{not-false}
 use Rattle.gem_tables.specs.Table.{row_of}
 use Rattle.gem_tables.specs.declared.firing.Firing.{Firing}
-use Rattle.gem_tables.proofs.Machines.{either_creates}
+use Rattle.floor_model.proofs.EachTable.{either_creates}
 use Rattle.shop_floor.specs.Owning.{owner_number}
 use Rattle.process_job.specs.Jobs as process
 use Rattle.process_job.specs.Tables as effect
@@ -20,7 +20,7 @@ use Rattle.tool_jobs.proofs.Rows.{stays_completed}
 use Rattle.floor_model.specs.declared.tracked.Substrate.{Substrate}
 use Rattle.floor_model.specs.Floor.{ToolFloor, substrate_numbered}
 use Rattle.floor_model.specs.Modules.{issued, open_task, aligned_by, move_does, found_move}
-use Rattle.floor_model.specs.Machines.{taken_along, floor_machines, floor_fired}
+use Rattle.floor_model.specs.Machines.{taken_along, floor_fired}
 use Rattle.floor_model.specs.Substrates.{without_carrier, substrate_does, found_does}
 use Rattle.floor_model.specs.Views.{planned}
 use Rattle.floor_model.proofs.Registrations.{row_registered}
@@ -103,43 +103,21 @@ module _ (P : JobStore → Type 0) (leaves_keep : (job : List ℕ) (s : JobStore
 
   control_row : (x : Firing) (f : ToolFloor) → Of f → Of (floor_fired x f)
   control_row x f at =
-      either_creates (λ (fs : List Firing) (h : ToolFloor). Of h) f x floor_machines at (
-        at,
-        (
-          at,
-          (
-            at,
-            (
-              along x.row.row x.object f at,
-              (
-                at,
-                (
-                  subst (λ (w : Jobs). P w.control) (sym (row_registered x.row.row x.object f).jobs) at,
-                  (
-                    at,
-                    (
-                      at,
-                      (
-                        at,
-                        (
-                          lost_of (row_of processing_table x.row.row) (substrate_numbered x.object f.substrates) f at,
-                          (
-                            process_of x.row.row x.object f.jobs at,
-                            (
-                              row_keeps x.row.row x.object f.jobs.control at,
-                              (move_of (row_of move_table x.row.row) x.object (planned x.object f) f at, tt),
-                            ),
-                          ),
-                        ),
-                      ),
-                    ),
-                  ),
-                ),
-              ),
-            ),
-          ),
-        ),
-      )
+      either_creates (λ (fs : List Firing) (h : ToolFloor). Of h) f x at (record {
+        transfer = at;
+        access = at;
+        reservation = at;
+        association = along x.row.row x.object f at;
+        id = at;
+        map = subst (λ (w : Jobs). P w.control) (sym (row_registered x.row.row x.object f).jobs) at;
+        accessing = at;
+        location = at;
+        transport = at;
+        processing = lost_of (row_of processing_table x.row.row) (substrate_numbered x.object f.substrates) f at;
+        process_job = process_of x.row.row x.object f.jobs at;
+        control_job = row_keeps x.row.row x.object f.jobs.control at;
+        move = move_of (row_of move_table x.row.row) x.object (planned x.object f) f at;
+      })
 
 -- ---- one that is past
 

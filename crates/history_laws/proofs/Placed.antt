@@ -15,7 +15,7 @@ use Rattle.floor_laws.proofs.RemSound.{removal_left_sound}
 use Rattle.floor_laws.proofs.ShopTables.{cancel_sound}
 use Rattle.floor_laws.proofs.ShopHost.{written_sound, unbinding_sound, placing_sound}
 use Rattle.floor_laws.proofs.JobCreated.{created_sound, control_changes_sound}
-use Rattle.floor_laws.proofs.EndBut.{fetched_sound}
+use Rattle.floor_laws.proofs.EndProcess.{fetched_sound}
 use Rattle.gem_model.specs.State.{State, opening, raised}
 use Rattle.gem_model.specs.Settle.{settling, Along}
 use Rattle.gem_model.specs.Step.{Outcome, acts}

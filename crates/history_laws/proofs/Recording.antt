@@ -16,6 +16,8 @@ use Rattle.gem_model.proofs.Floored.{run-floor, run-carriers}
 use Rattle.history_laws.proofs.Placed.{run_at, run-placed}
 use Rattle.history_laws.proofs.Working.{run-works}
 use Rattle.history_laws.proofs.Completing.{run-completes}
+use Rattle.history_laws.proofs.Fires.{each_fires}
+use Rattle.history_laws.proofs.CompletingByRows.{run-completes_by_rows}
 use Rattle.history_laws.proofs.Moved.{run-moves, run-ends-once, run-given}
 use Rattle.history_laws.proofs.Found.{rest-occupied, sound-met}
 use Rattle.floor_laws.proofs.FloorPlaces.{one_place_sound}
@@ -48,6 +50,8 @@ recorded-of c history g bounds run =
       room = run-room c history g run;
       works = λ up work. run-works c history g ports few bounds.recipes run up work;
       completes = run-completes c history g ports run;
+      fires = each_fires (opening c) history;
+      completes_by_rows = run-completes_by_rows c history g ports run;
     }
 
 -- a history in which nothing happened

@@ -1,4 +1,6 @@
 pub mod Recorded
 pub mod Moved
 pub mod Completes
+pub mod Calm
+pub mod Fires
 pub mod Found

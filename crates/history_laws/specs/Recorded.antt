@@ -16,6 +16,8 @@ use Rattle.gem_model.specs.State.{State, opening}
 use Rattle.gem_model.specs.Run.{Run}
 use Rattle.history_laws.specs.Moved.{place_of, EachMoves, EndsOnce}
 use Rattle.history_laws.specs.Completes.{EachCompletes}
+use Rattle.history_laws.specs.Calm.{EachCompletesByRows}
+use Rattle.history_laws.specs.Fires.{EachFires}
 use Rattle.history_laws.specs.Found.{AreOccupied, AreMet}
 use Rattle.gem_model.specs.Reported.{told_as, reported_in, IsOf}
 use Rattle.gem_model.specs.OpenNotes.{Carries, NeverBack, open_behind, frames_behind, note_numbers, open_number}
@@ -67,3 +69,7 @@ pub record Recorded (c : Config) (history : List Entry) (g : State) : Type 0 whe
   pub works : is_any_down g.floor.modules ≡ false → is_work_left g.floor ≡ true → is_any_open g.floor.modules ≡ true
   -- where nobody disturbs it, a control job completes exactly at its last Done, of eight for each of its substrates
   pub completes : EachCompletes (opening c) history
+  -- the rows that are listed of the input of each entry are those that it fires
+  pub fires : EachFires (opening c) history
+  -- and where none of them disturbs it, a control job completes so
+  pub completes_by_rows : EachCompletesByRows (opening c) history

@@ -8,7 +8,7 @@ use Rattle.gem_ids.specs.declared.numbers.PortNo.{PortNo}
 use Rattle.gem_ids.specs.Names.{name_in_slot}
 use Rattle.gem_tables.specs.Table.{firing, row_of}
 use Rattle.gem_tables.specs.declared.firing.Firing.{Firing}
-use Rattle.gem_tables.proofs.Machines.{either_creates}
+use Rattle.floor_model.proofs.EachTable.{either_creates}
 use Rattle.tool_tasks.specs.declared.task.Task.{Task}
 use Rattle.tool_tasks.specs.declared.task.Task.TheVariants as task
 use Rattle.load_port.specs.Tables as word
@@ -34,7 +34,7 @@ use Rattle.floor_model.specs.Floor.{ToolFloor, substrate_numbered}
 use Rattle.floor_model.specs.Jobs.{frees, stops_carriers, gets_members, job_does, found_job_does}
 use Rattle.floor_model.specs.Modules.{issued, goes, transferred, open_task, aligned_by, move_does, found_move}
 use Rattle.floor_model.specs.Substrates.{can_register, first_substrate, registers_at, registers_slot, registers_slots, registers_at_port, registers_found, reaches_verified, registration_rows, is_of, emptied, removed_of, without_carrier, removed_where, substrate_does, found_does}
-use Rattle.floor_model.specs.Machines.{on_shop, port_machine, carrier_machine, location_machine, transport_machine, processing_machine, process_machine, control_machine, move_machine, floor_machines, floor_fired, creation_rows, registered_by, taken_along}
+use Rattle.floor_model.specs.Machines.{on_shop, port_machine, carrier_machine, location_machine, transport_machine, processing_machine, process_machine, control_machine, move_machine, floor_fired, creation_rows, registered_by, taken_along}
 use Rattle.floor_model.specs.Views.{planned}
 use Rattle.process_job.specs.Jobs.{job_numbered as process_numbered}
 use Rattle.shop_floor.specs.Machines.{transfer_machine, access_machine, reservation_machine, id_machine}
@@ -239,40 +239,21 @@ slot_given row carrier f =
 
 pub given_behind : (x : Firing) (f : ToolFloor) → (floor_fired x f).places.given ≡ f.places.given + registrations (creation_rows x f)
 given_behind x f =
-    either_creates (Given f) f x floor_machines (none_given f f refl) (
-      port_given transfer_machine (port_none (row_of transfer_table row) n f.shop),
-      (
-        port_given access_machine (port_none (row_of access_table row) n f.shop),
-        (
-          port_given reservation_machine (port_none (row_of reservation_table row) n f.shop),
-          (
-            no_more_given f (port_machine.fired row n f) (port_machine.creates row n f) (port_none (row_of association_table row) n f.shop) (along_given row n f),
-            (
-              none_given f ((on_shop id_machine).fired row n f) refl,
-              (
-                slot_given row n f,
-                (
-                  none_given f (carrier_machine.fired row n f) refl,
-                  (
-                    none_given f (location_machine.fired row n f) refl,
-                    (
-                      none_given f (transport_machine.fired row n f) refl,
-                      (
-                        none_given f (processing_machine.fired row n f) (processing_given (row_of processing_table row) (substrate_numbered n f.substrates) f),
-                        (
-                          none_given f (process_machine.fired row n f) (job_given (row_of job_table row) (process_numbered n f.jobs.process.kept) f),
-                          (none_given f (control_machine.fired row n f) refl, (none_given f (move_machine.fired row n f) (move_given (row_of move_table row) n (planned n f) f), tt)),
-                        ),
-                      ),
-                    ),
-                  ),
-                ),
-              ),
-            ),
-          ),
-        ),
-      ),
-    ) where
+    either_creates (Given f) f x (none_given f f refl) (record {
+      transfer = port_given transfer_machine (port_none (row_of transfer_table row) n f.shop);
+      access = port_given access_machine (port_none (row_of access_table row) n f.shop);
+      reservation = port_given reservation_machine (port_none (row_of reservation_table row) n f.shop);
+      association = no_more_given f (port_machine.fired row n f) (port_machine.creates row n f) (port_none (row_of association_table row) n f.shop) (along_given row n f);
+      id = none_given f ((on_shop id_machine).fired row n f) refl;
+      map = slot_given row n f;
+      accessing = none_given f (carrier_machine.fired row n f) refl;
+      location = none_given f (location_machine.fired row n f) refl;
+      transport = none_given f (transport_machine.fired row n f) refl;
+      processing = none_given f (processing_machine.fired row n f) (processing_given (row_of processing_table row) (substrate_numbered n f.substrates) f);
+      process_job = none_given f (process_machine.fired row n f) (job_given (row_of job_table row) (process_numbered n f.jobs.process.kept) f);
+      control_job = none_given f (control_machine.fired row n f) refl;
+      move = none_given f (move_machine.fired row n f) (move_given (row_of move_table row) n (planned n f) f);
+    }) where
       row : ℕ
       row = x.row.row
 

@@ -10,7 +10,8 @@ use Rattle.gem_model.specs.State.{opening}
 use Rattle.gem_model.specs.Sizes.{bytes_of}
 use Rattle.gem_model.specs.Run.{after_all}
 use Rattle.history_laws.specs.Recorded.{Recorded}
-use Rattle.line_grammar.specs.Texts.{whole_lines, NumberEnded}
+use Rattle.text_lines.specs.Lines.{whole_lines}
+use Rattle.line_grammar.specs.Texts.{NumberEnded}
 use Rattle.gem_model.specs.Feed.{AllRead, OutsideGrammar, QuitAt, feed_entries}
 use Rattle.gem_model.specs.Printed.{printed}
 use Rattle.line_feeding.specs.declared.ended.Cause.{Cause}

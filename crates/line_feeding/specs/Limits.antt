@@ -1,8 +1,8 @@
 -- Where a run stops at its limits.
+use Rattle.text_lines.specs.Lines.{whole_lines}
 use Rattle.std.specs.Prelude.{◌≡◌, ℕ, List, length}
 use Rattle.tool_events.specs.declared.config.Config.{Config}
 use Rattle.tool_events.specs.declared.entry.Entry.{Entry}
-use Rattle.line_grammar.specs.Texts.{whole_lines}
 use Rattle.gem_model.specs.Feed.{AllRead, feed_entries}
 
 -- the greatest input, in bytes (this tool's profile, limits)

@@ -1,8 +1,8 @@
 -- The notes of a run of feed, by how it ended.
+use Rattle.text_lines.specs.Lines.{whole_lines}
 use Rattle.std.specs.Prelude.{◌≡◌, ◌⊎◌, ℕ, List, []}
 use Rattle.tool_events.specs.declared.config.Config.{Config}
 use Rattle.tool_events.specs.declared.entry.Entry.{Entry}
-use Rattle.line_grammar.specs.Texts.{whole_lines}
 use Rattle.gem_model.specs.SessionBytes.{session_in}
 use Rattle.line_feeding.specs.declared.ended.Cause.{Cause}
 use Rattle.line_feeding.specs.declared.ended.Cause.TheVariants as cause

@@ -2,7 +2,8 @@
 use Rattle.std.specs.Prelude.{◌≡◌, ◌⊎◌, ℕ, ◌<◌, ⊤, List, ◌∷◌, ◌++◌, length}
 use Rattle.tool_events.specs.declared.config.Config.{Config}
 use Rattle.tool_events.specs.declared.entry.Entry.{Entry}
-use Rattle.line_grammar.specs.Texts.{IsFront, whole_lines, LineEnded, NumberEnded, EndedLines}
+use Rattle.text_lines.specs.Lines.{whole_lines}
+use Rattle.line_grammar.specs.Texts.{IsFront, LineEnded, NumberEnded, EndedLines}
 use Rattle.gem_model.specs.Feed.{feed_entries}
 use Rattle.line_feeding.specs.declared.halt.Halt.{Halt}
 use Rattle.line_feeding.specs.declared.halt.Halt.TheVariants as halt

@@ -19,7 +19,7 @@ pub enum FeedWords {
 
 /// What the words ask of the call `feed`: the command `feed CONFIG` or `batch SEED CARRIERS CONFIG` (this tool's profile, the
 /// program's words). The error is the place of the first, counted from 0, that does not fit: where they are no command at all, the one
-/// that fits none; where they are `serve CONFIG`, 0. Takes no memory.
+/// that fits none; where they are another command, 0. Takes no memory.
 pub fn check_words(words: &[Text80]) -> Result<FeedWords, u64>
     ensures feed { (config : List ℕ) → Spells words.now (command.Feed config) → result ≡ Ok asks.Feed }
     ensures batch { (seed carriers : ℕ) (config : List ℕ) → Spells words.now (command.Batch seed carriers config) → result ≡ Ok (asks.Batch seed carriers) }
@@ -30,7 +30,7 @@ pub fn check_words(words: &[Text80]) -> Result<FeedWords, u64>
     match command_of(words) {
         Ok(Words::Feed(_)) => Ok(FeedWords::Feed),
         Ok(Words::Batch(seed, carriers, _)) => Ok(FeedWords::Batch(seed, carriers)),
-        Ok(Words::Serve(_)) => Err(0),
+        Ok(_) => Err(0),
         Err(WordsFault::Place(place)) => Err(place),
     }
 }
@@ -43,7 +43,7 @@ pub fn check_serve_words(words: &[Text80]) -> Result<(), u64>
 {
     match command_of(words) {
         Ok(Words::Serve(_)) => Ok(()),
-        Ok(Words::Feed(_) | Words::Batch(_, _, _)) => Err(0),
+        Ok(_) => Err(0),
         Err(WordsFault::Place(place)) => Err(place),
     }
 }

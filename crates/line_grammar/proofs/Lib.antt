@@ -6,4 +6,3 @@ pub mod Unique
 pub mod Public
 pub mod Watch
 pub mod OnLiterals
-pub mod Texts

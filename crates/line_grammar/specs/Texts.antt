@@ -1,25 +1,10 @@
--- A text as lines (this tool's profile, input lines).
-use Rattle.std.specs.Prelude.{◌≡◌, ◌⊎◌, ℕ, ◌<◌, ◌==◌, Bool, true, false, if◌then◌else◌, List, [], ◌∷◌, ◌++◌, length}
-use Rattle.std.specs.List.{list_any}
+-- Which lines of a text have ended (this tool's profile, input lines).
+use Rattle.std.specs.Prelude.{◌≡◌, ◌⊎◌, ℕ, ◌<◌, Bool, true, false, List, ◌∷◌, ◌++◌, length}
+use Rattle.text_lines.specs.Lines.{lines_of, whole_lines}
 use Rattle.tool_events.specs.declared.event.OperCmd.TheVariants as oper
 use Rattle.line_grammar.specs.Reading.{line_bytes}
 use Rattle.line_grammar.specs.declared.line.Line.{Line}
 use Rattle.line_grammar.specs.declared.line.Line.TheVariants as line
-
--- a byte goes onto the first line of what follows it
-abbrev pub onto_first : ℕ → List (List ℕ) → List (List ℕ)
-onto_first byte [] = (byte ∷ []) ∷ []
-onto_first byte (line ∷ lines) = (byte ∷ line) ∷ lines
-
--- the lines of a text: each ends with a line feed, which the last may lack
-abbrev pub lines_of : List ℕ → List (List ℕ)
-lines_of [] = []
-lines_of (byte ∷ text) = if byte == 10 then [] ∷ lines_of text else onto_first byte (lines_of text)
-
--- the text up to its last line feed
-abbrev pub whole_lines : List ℕ → List ℕ
-whole_lines [] = []
-whole_lines (byte ∷ text) = if list_any (λ b. b == 10) (byte ∷ text) then byte ∷ whole_lines text else []
 
 -- the whole begins with the front
 pub record IsFront {A : Type 0} (front whole : List A) : Type 0 where

@@ -25,12 +25,12 @@ use Rattle.floor_moves.specs.Floor as law
 use Rattle.floor_moves.specs.Floor.{Loc, Command, aligner, pick, place, align, busy, idle, is_done}
 use Rattle.floor_moves.specs.Effects.{moved, aligned as aligned_by_numbers, turned, worked}
 use Rattle.floor_moves.specs.Agree.{Agree}
-use Rattle.floor_moves.specs.Valid.{Valid}
+use Rattle.floor_moves.specs.Valid.{IsUnnamed, Valid}
 use Rattle.floor_moves.proofs.Facts.{outside_not_done, picked_not_done}
-use Rattle.floor_moves.proofs.Done.{done_align-keeps, but_finished}
+use Rattle.floor_moves.proofs.Done.{done_align-keeps, finished-keeps}
 use Rattle.floor_moves.proofs.Moving.{idle_not_busy}
 use Rattle.place_laws.specs.Picture.{picture, loc_of, numbered, task_of, of_one}
-use Rattle.place_laws.specs.Sound.{Sound, SoundBut}
+use Rattle.place_laws.specs.Sound.{Sound}
 use Rattle.picture_laws.proofs.Columns.{says_same}
 use Rattle.picture_laws.proofs.Closing.{modules_behind, aligning_agrees}
 use Rattle.floor_laws.proofs.EndNames.{named_place, number_there, named_kept}
@@ -44,7 +44,7 @@ use Rattle.lot_laws.specs.Lot.{IsInJob, Waits, Executes}
 use Rattle.lot_laws.proofs.Standing.{on_base, undisturbed}
 use Rattle.lot_laws.proofs.Substrates.{change-executes}
 use Rattle.lot_laws.proofs.Done.{state_behind, worked-executes, worked_owed}
-use Rattle.floor_laws.proofs.EndBut.{is_running}
+use Rattle.floor_laws.proofs.EndProcess.{is_running}
 use Rattle.floor_laws.proofs.EndMoves.{Written, behind, pick_written, place_written}
 use Rattle.floor_moves.proofs.Maps.{set_else}
 
@@ -166,7 +166,7 @@ module _ (number : ℕ) (counted : ℕ → Bool) (f : ToolFloor) (sound : Sound 
 
 -- ---- its second row, of the substrate
 
-module _ (number : ℕ) (counted : ℕ → Bool) (f : ToolFloor) (e : Executes number counted f) (n : ℕ) (but : SoundBut n f) where
+module _ (number : ℕ) (counted : ℕ → Bool) (f : ToolFloor) (e : Executes number counted f) (n : ℕ) (sound : Sound f) (unnamed : IsUnnamed n (picture f)) where
   -- row 3 or 4 of table 13 of a substrate in a chamber, that is in a job, with no open command any more
   pub processed-falls : (row d : ℕ) → is_one_of (3 ∷ 4 ∷ []) row ≡ true → floor_starts (firing 13 n row) f ≡ true → (picture f).place_of n ≡ Some (law.chamber d) → (picture f).jobs.is_member n ≡ true
       → Executes number counted (floor_fired (firing 13 n row) f) × (owed_to counted (picture (floor_fired (firing 13 n row) f)) + 1 ≡ owed_to counted (picture f))
@@ -175,7 +175,7 @@ module _ (number : ℕ) (counted : ℕ → Bool) (f : ToolFloor) (e : Executes n
       (3 ∷ 4 ∷ []) row ((λ s. row_3 (substrate_numbered n f.substrates) refl s), ((λ s. row_4 (substrate_numbered n f.substrates) refl s), tt)) one starts
     where
       u : Undisturbed counted (picture f)
-      u = undisturbed number counted f (on_base f but.base) e
+      u = undisturbed number counted f (on_base f sound.base) e
 
       running : (s : Substrate) → substrate_numbered n f.substrates ≡ Some s → s.states.processing ≡ processing.InProcess → law.is_finished ((picture f).processing n) ≡ false
       running s found is = ap (λ (o : Option Substrate). law.is_finished (of_one 0 (λ (x : Substrate). processing_number x.states.processing) o)) found ∙ ap (λ (p : Processing). law.is_finished (processing_number p)) is
@@ -185,15 +185,15 @@ module _ (number : ℕ) (counted : ℕ → Bool) (f : ToolFloor) (e : Executes n
       row_3 (Some x) q s =
           let is = is_running x.states.processing (and_parts (is_among processing_number (processing.InProcess ∷ []) x.states.processing) true s).0 in
           let goes : state_behind 3 x ≡ 2 = ap (λ (p : Processing). processing_number (after processing_number processing_table 3 p)) is in
-          let less : OneLess counted (picture f) (worked n (state_behind 3 x) (picture f)) = subst (λ (k : ℕ). OneLess counted (picture f) (worked n k (picture f))) (sym goes) (finished-falls counted (picture f) n d 2 but.valid u at (running x q is) refl) in
-          let valid = but_finished (picture f) n (state_behind 3 x) (ap law.is_finished goes) but.valid in
-          (worked-executes number counted f but.base e n 3 x q member (running x q is) valid less.0, ap (λ (k : ℕ). k + 1) (worked_owed number counted f but.base e n 3 x q member (running x q is) valid less.0) ∙ less.1)
+          let less : OneLess counted (picture f) (worked n (state_behind 3 x) (picture f)) = subst (λ (k : ℕ). OneLess counted (picture f) (worked n k (picture f))) (sym goes) (finished-falls counted (picture f) n d 2 unnamed sound.valid u at (running x q is) refl) in
+          let valid = finished-keeps (picture f) n (state_behind 3 x) (ap law.is_finished goes) unnamed sound.valid in
+          (worked-executes number counted f sound.base e n 3 x q member (running x q is) valid less.0, ap (λ (k : ℕ). k + 1) (worked_owed number counted f sound.base e n 3 x q member (running x q is) valid less.0) ∙ less.1)
 
       row_4 : (o : Option Substrate) → substrate_numbered n f.substrates ≡ o → substrate_starts processing_number processing_table (λ s. s.processing) 4 o f ≡ true → Executes number counted (with_moved 13 4 n f) × (owed_to counted (picture (with_moved 13 4 n f)) + 1 ≡ owed_to counted (picture f))
       row_4 None q s = absurd (cc)
       row_4 (Some x) q s =
           let is = is_running x.states.processing (and_parts (is_among processing_number (processing.InProcess ∷ []) x.states.processing) true s).0 in
           let goes : state_behind 4 x ≡ 3 = ap (λ (p : Processing). processing_number (after processing_number processing_table 4 p)) is in
-          let less : OneLess counted (picture f) (worked n (state_behind 4 x) (picture f)) = subst (λ (k : ℕ). OneLess counted (picture f) (worked n k (picture f))) (sym goes) (finished-falls counted (picture f) n d 3 but.valid u at (running x q is) refl) in
-          let valid = but_finished (picture f) n (state_behind 4 x) (ap law.is_finished goes) but.valid in
-          (worked-executes number counted f but.base e n 4 x q member (running x q is) valid less.0, ap (λ (k : ℕ). k + 1) (worked_owed number counted f but.base e n 4 x q member (running x q is) valid less.0) ∙ less.1)
+          let less : OneLess counted (picture f) (worked n (state_behind 4 x) (picture f)) = subst (λ (k : ℕ). OneLess counted (picture f) (worked n k (picture f))) (sym goes) (finished-falls counted (picture f) n d 3 unnamed sound.valid u at (running x q is) refl) in
+          let valid = finished-keeps (picture f) n (state_behind 4 x) (ap law.is_finished goes) unnamed sound.valid in
+          (worked-executes number counted f sound.base e n 4 x q member (running x q is) valid less.0, ap (λ (k : ℕ). k + 1) (worked_owed number counted f sound.base e n 4 x q member (running x q is) valid less.0) ∙ less.1)

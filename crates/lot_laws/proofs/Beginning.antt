@@ -1,5 +1,5 @@
--- As a control job starts with its material in place, it executes undisturbed, and eight Dones are owed for each counted substrate.
-use Rattle.std.proofs.Common.{◌≡◌, ◌≤◌, ℕ, ◌*◌, ◌==◌, Bool, true, false, ◌&&◌, List, [], ◌∷◌, Option, Some, None, refl, sym, ◌∙◌, ap, subst, inr, arith}
+-- As a control job starts with its material in place, it executes undisturbed, and a Done is owed for each command of each counted substrate.
+use Rattle.std.proofs.Common.{◌≡◌, ◌≤◌, ℕ, ◌==◌, Bool, true, false, ◌&&◌, List, [], ◌∷◌, Option, Some, None, refl, sym, ◌∙◌, ap, subst, inr, arith}
 use Rattle.std.specs.List.{list_any}
 use Rattle.std.proofs.lemmas.Bool.{true≢false, and_parts}
 use Rattle.gem_tables.specs.Table.{is_one_of, firing}
@@ -24,7 +24,7 @@ use Rattle.place_laws.specs.Picture.{picture, of_one}
 use Rattle.place_laws.specs.Sound.{Sound}
 use Rattle.place_laws.proofs.Holding.{found_among, rising_given}
 use Rattle.floor_laws.proofs.JobSays.{member_tells, any_found}
-use Rattle.owed_laws.specs.Owed.{owed_to, number_of as number_counted}
+use Rattle.owed_laws.specs.Owed.{owed_to, commands_of}
 use Rattle.owed_laws.specs.Undisturbed.{AreUnaligned, Begins}
 use Rattle.owed_laws.proofs.Beginning.{begins_undisturbed, begins_owed}
 use Rattle.queue_laws.specs.Started.{is_queued, is_left_in, AreStarted}
@@ -147,5 +147,5 @@ module _ (number row : ℕ) (f : ToolFloor) (h : Sound f) (t : AreTogether f.job
           (both (is_at_source x.states.transport) (is_needing x.states.processing) joins.source joins.needs)
           (any_found _ (wants_slot number f x) f.jobs.process.kept j its (both (is_left_in number j.id f.jobs) (is_in_named_slot j f.shop x) left joins.named))
 
-    pub owed_then : owed_to counted (picture (floor_fired (firing 15 number row) f)) ≡ 8 * number_counted counted (picture f)
+    pub owed_then : owed_to counted (picture (floor_fired (firing 15 number row) f)) ≡ commands_of counted (picture f)
     owed_then = begins_owed counted (picture f) h.valid begins

@@ -3,7 +3,7 @@ use Rattle.std.proofs.Common.{◌≡◌, ℕ, ◌==◌, Bool, true, false, not, 
 use Rattle.std.proofs.lemmas.Bool.{true≢false}
 use Rattle.gem_tables.specs.Table.{firing}
 use Rattle.gem_tables.specs.declared.firing.Firing.{Firing}
-use Rattle.gem_tables.proofs.Machines.{starts_cases}
+use Rattle.floor_model.proofs.EachTable.{starts_cases}
 use Rattle.load_port.specs.Caack.{is_done_code}
 use Rattle.load_port.specs.Ports.{port_numbered}
 use Rattle.carrier.specs.declared.carrier.Carrier.{Carrier}
@@ -17,7 +17,7 @@ use Rattle.shop_floor.specs.Machines as shop
 use Rattle.floor_model.specs.Floor.{ToolFloor, with_shop, fetched}
 use Rattle.floor_model.specs.Jobs.{is_any_of_carrier}
 use Rattle.floor_model.specs.Substrates.{reaches_verified}
-use Rattle.floor_model.specs.Machines.{floor_machines, floor_starts, floor_fired}
+use Rattle.floor_model.specs.Machines.{floor_starts, floor_fired}
 use Rattle.place_laws.specs.Sound.{Sound}
 use Rattle.place_laws.proofs.Stays.{NonePresent}
 use Rattle.floor_laws.specs.Rows.{is_common}
@@ -46,35 +46,21 @@ slots carrier row = of (reaches_verified row) refl where
 -- so is each that leaves the jobs
 kind : (number : ℕ) (counted : ℕ → Bool) (before f : ToolFloor) (x : Firing) → floor_starts x f ≡ true → is_common x ≡ true → leaves_jobs number counted before x ≡ true → Kind x
 kind number counted before f x starts common leaves =
-    starts_cases (λ (y : Firing). is_common y ≡ true → leaves_jobs number counted before y ≡ true → Kind y) f x floor_machines (
-      (λ s c l. inl c),
-      (
-        (λ s c l. inl refl),
-        (
-          (λ s c l. inl refl),
-          (
-            (λ s c l. inl c),
-            (
-              (λ s c l. inl refl),
-              (
-                (λ s c l. slots x.object x.row.row),
-                (
-                  (λ s c l. inl (sym (or-false (not (x.row.row == 4))) ∙ c)),
-                  (
-                    (λ s c l. inl refl),
-                    (
-                      (λ s c l. absurd (true≢false (sym l))),
-                      ((λ s c l. absurd (true≢false (sym l))), ((λ s c l. absurd (true≢false (sym l))), ((λ s c l. absurd (true≢false (sym l))), ((λ s c l. inr (inr l)), tt)))),
-                    ),
-                  ),
-                ),
-              ),
-            ),
-          ),
-        ),
-      ),
-    )
-    starts common leaves
+    starts_cases (λ (y : Firing). is_common y ≡ true → leaves_jobs number counted before y ≡ true → Kind y) f x (record {
+      transfer = λ s c l. inl c;
+      access = λ s c l. inl refl;
+      reservation = λ s c l. inl refl;
+      association = λ s c l. inl c;
+      id = λ s c l. inl refl;
+      map = λ s c l. slots x.object x.row.row;
+      accessing = λ s c l. inl (sym (or-false (not (x.row.row == 4))) ∙ c);
+      location = λ s c l. inl refl;
+      transport = λ s c l. absurd (true≢false (sym l));
+      processing = λ s c l. absurd (true≢false (sym l));
+      process_job = λ s c l. absurd (true≢false (sym l));
+      control_job = λ s c l. absurd (true≢false (sym l));
+      move = λ s c l. inr (inr l);
+    }) starts common leaves
 
 -- ---- as an input comes
 

@@ -1,12 +1,9 @@
 -- A row of a control job leaves an executing one as it is, unless it completes; it completes where nothing is owed, and at rest it has.
-use Rattle.std.proofs.Common.{◌≡◌, ◌≤◌, ℕ, ◌+◌, ◌==◌, Bool, true, false, cond, not, ◌&&◌, ◌||◌, List, [], ◌∷◌, Option, Some, None, option_map, bytes_eq, refl, sym, ◌∙◌, ap, subst, ◌⊎◌, inl, inr, arith}
-use Rattle.std.specs.List.{AllByRecursion, list_all}
-use Rattle.std.specs.Option.{option_or}
+use Rattle.std.proofs.Common.{◌≡◌, ◌≤◌, ℕ, ◌+◌, ◌==◌, Bool, true, false, cond, not, ◌&&◌, ◌||◌, List, [], ◌∷◌, Option, Some, None, bytes_eq, refl, sym, ◌∙◌, ap, subst, ◌⊎◌, inl, inr, arith}
+use Rattle.std.specs.List.{list_all}
 use Rattle.std.proofs.lemmas.Bool.{true≢false, and_parts, or_right}
 use Rattle.std.proofs.lemmas.Bool.Decides.{Decides-eqb}
 use Rattle.gem_tables.specs.Table.{is_one_of, firing, first_itself}
-use Rattle.gem_tables.specs.Machine.{Machine, first_ready, least_in}
-use Rattle.gem_tables.specs.declared.firing.Firing.{Firing}
 use Rattle.gem_tables.proofs.Rows.{both}
 use Rattle.substrate.specs.Record.{is_finished}
 use Rattle.process_job.specs.Tables as want
@@ -32,7 +29,8 @@ use Rattle.floor_model.specs.Floor.{ToolFloor, substrate_numbered, number_of}
 use Rattle.floor_model.specs.Floor.{RiseTo}
 use Rattle.floor_model.specs.Substrates.{is_in_slot, is_removed}
 use Rattle.floor_model.specs.Jobs.{is_member, is_done_with, is_settled, is_here, sight, found_sight, is_first_here}
-use Rattle.floor_model.specs.Machines.{floor_machines, floor_fired, floor_least, process_numbers}
+use Rattle.floor_model.specs.Machines.{floor_fired, floor_least, process_numbers}
+use Rattle.floor_model.proofs.AtRest.{none_ready}
 use Rattle.floor_moves.specs.Floor as law
 use Rattle.floor_moves.specs.Floor.{Loc, is_done}
 use Rattle.place_laws.specs.Picture.{picture}
@@ -54,28 +52,6 @@ use Rattle.lot_laws.proofs.Standing.{on_base, member_left}
 use Rattle.lot_laws.proofs.Going.{controls-execute}
 
 -- ---- at rest
-
--- where no row is the first, none is ready at one of the objects
-none_first_ready : (table : ℕ) (ready : ℕ → Option ℕ) (objects : List ℕ) (o : ℕ) → first_ready table ready objects ≡ None → is_one_of objects o ≡ true → ready o ≡ None
-none_first_ready table ready [] o e there = absurd (true≢false (sym there))
-none_first_ready table ready (x ∷ xs) o e there = by_row (ready x) refl (x == o) refl e there (none_first_ready table ready xs o) where
-  by_row : (r : Option ℕ) → ready x ≡ r → (b : Bool) → (x == o) ≡ b → option_or (option_map (firing table x) r) (first_ready table ready xs) ≡ None → (b || is_one_of xs o) ≡ true
-      → (first_ready table ready xs ≡ None → is_one_of xs o ≡ true → ready o ≡ None) → ready o ≡ None
-  by_row (Some row) q b t f g later = absurd (cc)
-  by_row None q true t f g later = subst (λ (n : ℕ). ready n ≡ None) ((Decides-eqb x o).0 t) q
-  by_row None q false t f g later = later f g
-
-module _ {World : Type 0} where
-  -- where none is the least, none is ready in any table
-  pub rest_none : (w : World) (ms : List (Machine World)) → least_in ms w ≡ None
-      → AllByRecursion (λ (m : Machine World). (o : ℕ) → is_one_of (m.objects w) o ≡ true → m.ready o w ≡ None) ms
-  rest_none w [] e = tt
-  rest_none w (m ∷ ms) e = by_first (first_ready m.table (λ object. m.ready object w) (m.objects w)) refl e (rest_none w ms) where
-    by_first : (o : Option Firing) → first_ready m.table (λ object. m.ready object w) (m.objects w) ≡ o → option_or o (least_in ms w) ≡ None
-        → (least_in ms w ≡ None → AllByRecursion (λ (k : Machine World). (i : ℕ) → is_one_of (k.objects w) i ≡ true → k.ready i w ≡ None) ms)
-        → ((i : ℕ) → is_one_of (m.objects w) i ≡ true → m.ready i w ≡ None) × AllByRecursion (λ (k : Machine World). (i : ℕ) → is_one_of (k.objects w) i ≡ true → k.ready i w ≡ None) ms
-    by_first (Some x) q f later = absurd (cc)
-    by_first None q f later = ((λ i there. none_first_ready m.table (λ object. m.ready object w) (m.objects w) i q there), later f)
 
 -- a job that is found is one of the numbers
 job_in : (n : ℕ) (js : List ProcessJob) (j : ProcessJob) → job_numbered n js ≡ Some j → is_one_of (process_numbers js) n ≡ true
@@ -218,14 +194,11 @@ module _ (number : ℕ) (counted : ℕ → Bool) (f : ToolFloor) (h : Sound f) (
 
   pub rest_owes : floor_least f ≡ None → owed_to counted (picture f) ≡ 0 → ⊥
   rest_owes rest zero = by_left mine.job.left refl where
-    tables : AllByRecursion (λ (m : Machine ToolFloor). (o : ℕ) → is_one_of (m.objects f) o ≡ true → m.ready o f ≡ None) floor_machines
-    tables = rest_none f floor_machines rest
-
     controls : control_ready (control_numbered number f.jobs.control.jobs) (is_first_here number f) f.jobs ≡ None
-    controls = tables.1.1.1.1.1.1.1.1.1.1.1.0 number (numbered_in number mine.job f.jobs.control.jobs mine.at)
+    controls = (none_ready f rest).control_job number (numbered_in number mine.job f.jobs.control.jobs mine.at)
 
     by_left : (names : List (List ℕ)) → mine.job.left ≡ names → ⊥
     by_left [] q =
         let none : has_none_left (control_numbered number f.jobs.control.jobs) ≡ true = ap has_none_left mine.at ∙ ap is_none_left q in
         none_some 8 (sym controls ∙ completes number f.jobs t s e.steers (is_first_here number f) ∙ ap (λ (b : Bool). cond b (Some 8) None) none)
-    by_left (name ∷ names) q = first_not_at_rest zero name names q tables.1.1.1.1.1.1.1.1.1.1.0
+    by_left (name ∷ names) q = first_not_at_rest zero name names q (none_ready f rest).process_job

@@ -3,7 +3,7 @@ use Rattle.std.proofs.Common.{◌≡◌, ◌≤◌, ℕ, zero, suc, ◌+◌, ◌
 use Rattle.std.proofs.lemmas.Bool.Decides.{Decides-eqb}
 use Rattle.gem_tables.specs.Table.{is_one_of, firing, after}
 use Rattle.gem_tables.specs.declared.firing.Firing.{Firing}
-use Rattle.gem_tables.proofs.Machines.{starts_cases}
+use Rattle.floor_model.proofs.EachTable.{starts_cases}
 use Rattle.gem_ids.specs.declared.numbers.LocId.{LocId}
 use Rattle.gem_ids.specs.declared.numbers.LocId.TheVariants.{Slot}
 use Rattle.gem_ids.specs.declared.numbers.PortNo.{PortNo}
@@ -43,7 +43,7 @@ use Rattle.floor_model.specs.declared.tracked.Substrate.{Substrate}
 use Rattle.floor_model.specs.Floor.{ToolFloor, with_shop, with_jobs, fetched, substrate_numbered}
 use Rattle.floor_model.specs.Jobs.{freed, without_members}
 use Rattle.floor_model.specs.Substrates.{reaches_verified, without_carrier, can_register, first_substrate, registers_at, registers_slot, registers_slots, registers_at_port, registers_found}
-use Rattle.floor_model.specs.Machines.{floor_machines, floor_starts, floor_fired, registered_by}
+use Rattle.floor_model.specs.Machines.{floor_starts, floor_fired, registered_by}
 use Rattle.place_laws.specs.Picture.{picture, of_one}
 use Rattle.place_laws.specs.Sound.{Sound}
 use Rattle.floor_laws.proofs.JobSight.{none_some, some_same}
@@ -229,32 +229,21 @@ module _ (number : ℕ) (counted : ℕ → Bool) (before : ToolFloor) where
 
     pub disturbed-row : (x : Firing) → floor_starts x f ≡ true → leaves_jobs x ≡ true → Is (floor_fired x f)
     disturbed-row x starts kind =
-        starts_cases (λ (y : Firing). leaves_jobs y ≡ true → Is (floor_fired y f)) f x floor_machines (
-          (λ s k. disturbed-shop f (shop.floor_fired (firing 4 x.object x.row.row) f.shop) d),
-          (
-            (λ s k. disturbed-shop f (shop.floor_fired (firing 5 x.object x.row.row) f.shop) d),
-            (
-              (λ s k. disturbed-shop f (shop.floor_fired (firing 6 x.object x.row.row) f.shop) d),
-              (
-                (λ s k. association x.object x.row.row k),
-                (
-                  (λ s k. disturbed-shop f (shop.floor_fired (firing 8 x.object x.row.row) f.shop) d),
-                  (
-                    (λ s k. slots x.object x.row.row),
-                    (
-                      (λ s k. disturbed-shop f (shop.floor_fired (firing 10 x.object x.row.row) f.shop) d),
-                      (
-                        (λ s k. disturbed-stays f (floor_fired (firing 11 x.object x.row.row) f) refl (λ n one. refl) d),
-                        ((λ s k. absurd (cc)), ((λ s k. absurd (cc)), ((λ s k. absurd (cc)), ((λ s k. absurd (cc)), ((λ s k. module_up x.object x.row.row k), tt))))),
-                      ),
-                    ),
-                  ),
-                ),
-              ),
-            ),
-          ),
-        )
-        starts kind
+        starts_cases (λ (y : Firing). leaves_jobs y ≡ true → Is (floor_fired y f)) f x (record {
+          transfer = λ s k. disturbed-shop f (shop.floor_fired (firing 4 x.object x.row.row) f.shop) d;
+          access = λ s k. disturbed-shop f (shop.floor_fired (firing 5 x.object x.row.row) f.shop) d;
+          reservation = λ s k. disturbed-shop f (shop.floor_fired (firing 6 x.object x.row.row) f.shop) d;
+          association = λ s k. association x.object x.row.row k;
+          id = λ s k. disturbed-shop f (shop.floor_fired (firing 8 x.object x.row.row) f.shop) d;
+          map = λ s k. slots x.object x.row.row;
+          accessing = λ s k. disturbed-shop f (shop.floor_fired (firing 10 x.object x.row.row) f.shop) d;
+          location = λ s k. disturbed-stays f (floor_fired (firing 11 x.object x.row.row) f) refl (λ n one. refl) d;
+          transport = λ s k. absurd (cc);
+          processing = λ s k. absurd (cc);
+          process_job = λ s k. absurd (cc);
+          control_job = λ s k. absurd (cc);
+          move = λ s k. module_up x.object x.row.row k;
+        }) starts kind
 
   -- ---- changes of jobs
 

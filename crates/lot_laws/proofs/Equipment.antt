@@ -1,9 +1,8 @@
 -- Done of the open command of a module takes one off what is owed, with all its rows, where no row is ready before it.
-use Rattle.std.proofs.Common.{◌≡◌, ℕ, Bool, true, false, if◌then◌else◌, ◌&&◌, ◌++◌, List, [], ◌∷◌, Option, Some, None, refl, sym, ◌∙◌, ap, subst}
-use Rattle.std.specs.List.{AllByRecursion, list_any}
+use Rattle.std.proofs.Common.{◌≡◌, ℕ, Bool, true, false, ◌&&◌, ◌++◌, List, [], ◌∷◌, Option, Some, None, refl, sym, ◌∙◌, ap, subst}
+use Rattle.std.specs.List.{list_any}
 use Rattle.std.proofs.lemmas.Bool.{true≢false}
 use Rattle.gem_tables.specs.Table.{firing, is_one_of, is_among, first_itself}
-use Rattle.gem_tables.specs.Machine.{Machine}
 use Rattle.gem_tables.proofs.Rows.{one_of_cases}
 use Rattle.tool_tasks.specs.declared.task.Command.{Command as ToolCommand}
 use Rattle.tool_tasks.specs.declared.task.Task.{Task as ToolTask}
@@ -21,20 +20,21 @@ use Rattle.floor_model.specs.Modules.{number_named}
 use Rattle.floor_model.specs.Naming.{processes}
 use Rattle.floor_model.specs.Signals.{at_module, done_row, at_done, done_processed, done_processing, done_at, done_rows}
 use Rattle.floor_model.specs.Wants.{substrate_wants}
-use Rattle.floor_model.specs.Machines.{substrate_starts, substrate_ready, floor_machines, floor_starts, floor_fired, floor_least}
+use Rattle.floor_model.specs.Machines.{substrate_starts, substrate_ready, floor_starts, floor_fired, floor_least}
+use Rattle.floor_model.proofs.AtRest.{none_ready}
 use Rattle.floor_moves.specs.Floor as law
 use Rattle.floor_moves.specs.Floor.{process, named}
+use Rattle.floor_moves.specs.Valid.{IsUnnamed}
 use Rattle.place_laws.specs.Picture.{picture, of_one, number_or_none, task_of}
-use Rattle.place_laws.specs.Sound.{Sound, SoundBut}
+use Rattle.place_laws.specs.Sound.{Sound}
 use Rattle.place_laws.proofs.Holding.{one_found, found_among}
 use Rattle.floor_laws.specs.Rows.{one_listed, listed}
-use Rattle.floor_laws.proofs.EndAnswers.{process_but}
+use Rattle.floor_laws.proofs.EndAnswers.{process_unnamed, module_row_sound}
 use Rattle.floor_laws.proofs.EndOpen.{command_of, busy_at, busy_processes}
 use Rattle.floor_laws.proofs.FloorInputs.{listed_starts, done_starts, done_one}
 use Rattle.floor_laws.proofs.JobSight.{none_some}
 use Rattle.lot_laws.specs.Lot.{Executes, TakesOneOff}
 use Rattle.lot_laws.proofs.Answers.{done_moved-falls, closed-executes, processed-falls}
-use Rattle.lot_laws.proofs.Controls.{rest_none}
 use Rattle.floor_moves.proofs.Moving.{idle_not_busy}
 
 -- ---- what an open Process names is IN PROCESS where no row is ready
@@ -44,14 +44,10 @@ ready_needing : (finds : SubstrateWant → Bool) → finds want.process_names_it
 ready_needing finds e = rw e refl
 
 module _ (f : ToolFloor) (rest : floor_least f ≡ None) where
-  -- at no object of a table a row is ready
-  tables_rest : AllByRecursion (λ (m : Machine ToolFloor). (o : ℕ) → is_one_of (m.objects f) o ≡ true → m.ready o f ≡ None) floor_machines
-  tables_rest = rest_none f floor_machines rest
-
   pub is_in_process : (n : ℕ) (s : Substrate) → substrate_numbered n f.substrates ≡ Some s → list_any (processes s.sub) f.modules ≡ true → law.is_finished ((picture f).processing n) ≡ false → s.states.processing ≡ processing.InProcess
   is_in_process n s known names left = of s.states.processing refl (sym (ap (of_one 0 (λ (x : Substrate). processing_number x.states.processing)) known)) where
     ready : substrate_ready processing_number processing_table (λ x. x.processing) (Some s) f ≡ None
-    ready = subst (λ (o : Option Substrate). substrate_ready processing_number processing_table (λ x. x.processing) o f ≡ None) known (tables_rest.1.1.1.1.1.1.1.1.1.0 n (found_among number_of n f.substrates s known))
+    ready = subst (λ (o : Option Substrate). substrate_ready processing_number processing_table (λ x. x.processing) o f ≡ None) known ((none_ready f rest).processing n (found_among number_of n f.substrates s known))
 
     ended : (p : Processing) → s.states.processing ≡ p → processing_number s.states.processing ≡ (picture f).processing n → law.is_finished (processing_number p) ≡ true → p ≡ processing.InProcess
     ended p q e finished = absurd (true≢false (sym finished ∙ ap (λ (x : Processing). law.is_finished (processing_number x)) (sym q) ∙ ap law.is_finished e ∙ left))
@@ -121,16 +117,17 @@ module _ (number : ℕ) (counted : ℕ → Bool) (f : ToolFloor) (sound : Sound 
         (done_moved-falls number counted f sound e m c fetched here t q other)
 
     -- the two rows of a Process
-    processed : (sub recipe : List ℕ) → c.task ≡ task.Process sub recipe → (n : ℕ) → number_named sub f.places ≡ Some n → SoundBut n (floor_fired (firing 16 m 7) f)
+    processed : (sub recipe : List ℕ) → c.task ≡ task.Process sub recipe → (n : ℕ) → number_named sub f.places ≡ Some n → IsUnnamed n (picture (floor_fired (firing 16 m 7) f))
         → TakesOneOff number counted f (listed (firing 16 m 7 ∷ firing 13 n (done_processing n f) ∷ []) f)
-    processed sub recipe q n names but =
+    processed sub recipe q n names unnamed =
         let p = is_processed f sound rest m c fetched here sub recipe q n names in
         let row = done_processing n f in
         let one = done_one n f in
         let closed = closed-executes number counted f sound e m c fetched here in
         let starts = running_starts (floor_fired (firing 16 m 7) f) n row p.one p.known p.running one in
-        let falls = processed-falls number counted (floor_fired (firing 16 m 7) f) closed.0 n but row p.chamber one starts p.at p.member in
-        subst (λ (g : ToolFloor). TakesOneOff number counted f (one_listed (firing 13 n row) g)) (sym (listed_starts (firing 16 m 7) f (done_starts m f c fetched here (task.Process sub recipe) q)))
+        let closes = done_starts m f c fetched here (task.Process sub recipe) q in
+        let falls = processed-falls number counted (floor_fired (firing 16 m 7) f) closed.0 n (module_row_sound f m 7 closes refl sound) unnamed row p.chamber one starts p.at p.member in
+        subst (λ (g : ToolFloor). TakesOneOff number counted f (one_listed (firing 13 n row) g)) (sym (listed_starts (firing 16 m 7) f closes))
         (subst (λ (g : ToolFloor). TakesOneOff number counted f g) (sym (listed_starts (firing 13 n row) (floor_fired (firing 16 m 7) f) starts)) (falls.0, falls.1 ∙ closed.1))
 
     -- by the task
@@ -139,7 +136,7 @@ module _ (number : ℕ) (counted : ℕ → Bool) (f : ToolFloor) (sound : Sound 
     by_task (task.Place sub to) q = alone (task.Place sub to) q (λ s r u. cc)
     by_task (task.Align sub) q = alone (task.Align sub) q (λ s r u. cc)
     by_task (task.Process sub recipe) q =
-        let w = process_but f sound m 7 c fetched here law.idle idle_not_busy refl sub recipe q in
+        let w = process_unnamed f sound m 7 c fetched here law.idle idle_not_busy refl sub recipe q in
         subst (λ (o : Option ℕ). TakesOneOff number counted f (listed (firing 16 m 7 ∷ at_done o f) f)) (sym w.1) (processed sub recipe q w.0 w.1 w.2)
 
   -- Done of the open command of a module

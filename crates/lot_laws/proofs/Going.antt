@@ -1,5 +1,5 @@
 -- A control job stays at work where the process jobs and the jobs of substrates change.
-use Rattle.std.proofs.Common.{◌≡◌, ℕ, Bool, true, false, not, ◌&&◌, List, map, Option, Some, None, option_map, refl, sym, ◌∙◌, ap, subst, ◌⊎◌, inl, inr, arith}
+use Rattle.std.proofs.Common.{◌≡◌, ℕ, Bool, true, false, not, ◌&&◌, List, map, Option, Some, None, option_map, refl, sym, ◌∙◌, ap, subst, ◌⊎◌, inl, inr}
 use Rattle.substrate.specs.Tables.{processing_number}
 use Rattle.process_job.specs.Jobs.{job_numbered}
 use Rattle.process_job.specs.declared.job.Material.{Material}
@@ -14,9 +14,8 @@ use Rattle.floor_moves.specs.Floor as law
 use Rattle.floor_moves.specs.Floor.{is_done}
 use Rattle.floor_moves.specs.Agree.{Agree}
 use Rattle.std.specs.List.{list_all}
-use Rattle.place_laws.specs.Picture.{picture, of_one, port_in, slot_in}
+use Rattle.place_laws.specs.Picture.{picture, port_in, slot_in}
 use Rattle.place_laws.specs.Sound.{Sound}
-use Rattle.picture_laws.proofs.Columns.{unknown_none}
 use Rattle.floor_laws.proofs.JobSight.{none_some, some_same}
 use Rattle.floor_laws.proofs.JobChanges.{IsJobAlone, numbers_map, found_map, says_map}
 use Rattle.floor_laws.proofs.JobSays.{member_tells}
@@ -28,7 +27,6 @@ use Rattle.lot_laws.specs.Lot.{IsInJob, Waits, Executes, IsAtWork, AtWork}
 use Rattle.lot_laws.proofs.AtWork.{executing_works, at_work_of, executes_by}
 use Rattle.lot_laws.proofs.Standing.{on_base, work-undisturbed}
 use Rattle.lot_laws.proofs.Steering.{control-works}
-use Rattle.place_laws.proofs.Holding.{IsOne}
 
 module _ (f : ToolFloor) (change : Substrate → Substrate) (alone : IsJobAlone change) (w : Jobs) where
   -- the floor behind the change
@@ -48,7 +46,6 @@ module _ (f : ToolFloor) (change : Substrate → Substrate) (alone : IsJobAlone 
     slot_of = λ n _. says_map change alone 0 (λ (s : Substrate). slot_in s.slot) (λ s. ap (λ (x : Substrate). slot_in x.slot) (alone s)) n f.substrates;
     place_of = λ n. refl;
     processing = λ n _. processing_same n;
-    unknown = λ n e one. let z : IsOne 0 = sym (ap (of_one 0 (λ (s : Substrate). processing_number s.states.processing)) (unknown_none n f.substrates e)) ∙ sym (processing_same n) ∙ one in omega (arith, z);
     is_aligned = λ n _. says_map change alone false (λ (s : Substrate). s.aligned) (λ s. ap (λ (x : Substrate). x.aligned) (alone s)) n f.substrates;
     carriers = refl;
     present_at = λ c. refl;

@@ -5,7 +5,7 @@ use Rattle.std.proofs.lemmas.Bool.Decides.{Decides-eqb}
 use Rattle.gem_tables.specs.Table.{firing, is_one_of}
 use Rattle.gem_tables.specs.declared.firing.Firing.{Firing}
 use Rattle.gem_tables.proofs.Rows.{ready_row, one_of_cases}
-use Rattle.gem_tables.proofs.Machines.{least_cases}
+use Rattle.floor_model.proofs.EachTable.{least_cases}
 use Rattle.load_port.specs.Tables.{transfer_number, transfer_table, association_number, association_table}
 use Rattle.carrier.specs.declared.carrier.Carrier.{Carrier}
 use Rattle.carrier.specs.Tables.{access_number, accessing_table}
@@ -30,7 +30,7 @@ use Rattle.floor_model.specs.Views.{planned}
 use Rattle.floor_model.specs.Modules.{move_wants, move_ready}
 use Rattle.floor_model.specs.Substrates.{is_outside, reaches_verified}
 use Rattle.floor_model.specs.Wants.{accessing_wants, substrate_wants}
-use Rattle.floor_model.specs.Machines.{accessing_ready, substrate_ready, floor_machines, floor_starts, floor_fired, floor_least}
+use Rattle.floor_model.specs.Machines.{accessing_ready, substrate_ready, floor_starts, floor_fired, floor_least}
 use Rattle.floor_model.proofs.Keeping.{least_starts}
 use Rattle.place_laws.specs.Picture.{picture}
 use Rattle.place_laws.specs.Sound.{Sound}
@@ -111,37 +111,21 @@ module _ (number : ℕ) (counted : ℕ → Bool) (f : ToolFloor) (h : Sound f) (
 
   kind : (x : Firing) → floor_least f ≡ Some x → Kind x
   kind x q =
-      least_cases Kind f x floor_machines (
-        (λ o r s. inl (ready_at_port transfer_number transfer_table (λ s. s.transfer) (λ to s. record s { transfer = to }) (λ (p r : ℕ). is_shop_row (firing 4 p r) ≡ true) f.shop o r (λ place p at. ((λ i a w. not_itself i), ((λ i a w. not_itself i), ((λ i a w. not_itself i), ((λ i a w. refl), ((λ i a w. not_itself i), tt)))))) s)),
-        (
-          (λ o r s. inl refl),
-          (
-            (λ o r s. inl refl),
-            (
-              (λ o r s. inl (ready_at_port association_number association_table (λ s. s.association) (λ to s. record s { association = to }) (λ (p r : ℕ). is_shop_row (firing 7 p r) ≡ true) f.shop o r (λ place p at. ((λ i a w. not_itself i), ((λ i a w. not_itself i), ((λ i a w. refl), ((λ i a w. refl), ((λ i a w. refl), ((λ i a w. not_itself i), ((λ i a w. refl), tt)))))))) s)),
-              (
-                (λ o r s. inl refl),
-                (
-                  (λ o r s. slots o r),
-                  (
-                    (λ o r s. accessing o r (carrier_numbered o f.shop.carriers) s),
-                    (
-                      (λ o r s. inl refl),
-                      (
-                        (λ o r s. transport o r s),
-                        (
-                          (λ o r s. inr (inr (inl (processing-executes number counted f h e o r s)))),
-                          ((λ o r s. process o r s), ((λ o r s. control o r s), ((λ o r s. inr (inr (inl (issue-executes number counted f h e o r (commands o r (planned o f) (module_at o f.modules) s))))), tt))),
-                        ),
-                      ),
-                    ),
-                  ),
-                ),
-              ),
-            ),
-          ),
-        ),
-      ) q
+      least_cases Kind f x (record {
+        transfer = λ o r s. inl (ready_at_port transfer_number transfer_table (λ s. s.transfer) (λ to s. record s { transfer = to }) (λ (p r : ℕ). is_shop_row (firing 4 p r) ≡ true) f.shop o r (λ place p at. ((λ i a w. not_itself i), ((λ i a w. not_itself i), ((λ i a w. not_itself i), ((λ i a w. refl), ((λ i a w. not_itself i), tt)))))) s);
+        access = λ o r s. inl refl;
+        reservation = λ o r s. inl refl;
+        association = λ o r s. inl (ready_at_port association_number association_table (λ s. s.association) (λ to s. record s { association = to }) (λ (p r : ℕ). is_shop_row (firing 7 p r) ≡ true) f.shop o r (λ place p at. ((λ i a w. not_itself i), ((λ i a w. not_itself i), ((λ i a w. refl), ((λ i a w. refl), ((λ i a w. refl), ((λ i a w. not_itself i), ((λ i a w. refl), tt)))))))) s);
+        id = λ o r s. inl refl;
+        map = λ o r s. slots o r;
+        accessing = λ o r s. accessing o r (carrier_numbered o f.shop.carriers) s;
+        location = λ o r s. inl refl;
+        transport = λ o r s. transport o r s;
+        processing = λ o r s. inr (inr (inl (processing-executes number counted f h e o r s)));
+        process_job = λ o r s. process o r s;
+        control_job = λ o r s. control o r s;
+        move = λ o r s. inr (inr (inl (issue-executes number counted f h e o r (commands o r (planned o f) (module_at o f.modules) s))));
+      }) q
 
   -- a row that registers substrates
   registers : (x : Firing) → floor_starts x f ≡ true → is_registration x ≡ true → Executes number counted (floor_fired x f) × (owed_to counted (picture (floor_fired x f)) ≡ owed_to counted (picture f))

@@ -7,7 +7,7 @@ use Rattle.std.proofs.lemmas.Bool.Decides.{Decides-eqb}
 use Rattle.std.proofs.lemmas.Slice.Eq.{bytes_eq-Decides}
 use Rattle.gem_tables.specs.Table.{is_one_of, firing}
 use Rattle.gem_tables.specs.declared.firing.Firing.{Firing}
-use Rattle.gem_tables.proofs.Machines.{starts_cases}
+use Rattle.floor_model.proofs.EachTable.{starts_cases}
 use Rattle.gem_tables.proofs.Rows.{both}
 use Rattle.carrier.specs.declared.carrier.Carrier.{Carrier}
 use Rattle.carrier.specs.declared.record.Accessing.{Accessing}
@@ -29,7 +29,7 @@ use Rattle.process_job.specs.declared.job.ProcessJob.{ProcessJob}
 use Rattle.floor_model.specs.declared.tracked.Substrate.{Substrate}
 use Rattle.floor_model.specs.Floor.{ToolFloor, with_shop, substrate_numbered}
 use Rattle.floor_model.specs.Jobs.{is_carrier_of, is_slot_named, names_slot_of, can_join, is_in_use, is_carrier_here, is_material_here, is_here, names_carrier, is_any_of_carrier}
-use Rattle.floor_model.specs.Machines.{floor_machines, floor_starts, floor_fired, accessing_starts}
+use Rattle.floor_model.specs.Machines.{floor_starts, floor_fired, accessing_starts}
 use Rattle.floor_model.specs.Substrates.{reaches_verified, registers_found}
 use Rattle.floor_moves.specs.Floor.{is_done}
 use Rattle.place_laws.specs.Picture.{picture, of_one}
@@ -236,32 +236,21 @@ module _ (number : ℕ) (counted : ℕ → Bool) (f : ToolFloor) (sound : Sound 
   -- The rows of tables 4 to 11, but for 3 and 5 of table 4, 2 and 6 of table 7, those of table 9 that reach VERIFIED, and 4 of table 10.
   pub shop_row-works : (x : Firing) → floor_starts x f ≡ true → is_shop_row x ≡ true → WorksOn number counted before f (floor_fired x f)
   shop_row-works x starts kind =
-      starts_cases (λ (y : Firing). is_shop_row y ≡ true → Keeps (floor_fired y f)) f x floor_machines (
-        (λ s kind. by_shop 4 x.object x.row.row s (transfer_leaves f.substrates f.shop x.object x.row.row) (transfer_access f.shop x.object x.row.row)),
-        (
-          (λ s kind. by_shop 5 x.object x.row.row s (mode_leaves f.substrates f.shop x.object x.row.row) (mode_access f.shop x.object x.row.row)),
-          (
-            (λ s kind. by_shop 6 x.object x.row.row s (reservation_leaves f.substrates f.shop x.object x.row.row) (reservation_access f.shop x.object x.row.row)),
-            (
-              (λ s kind. association-works x.object x.row.row s (and_parts (is_plain_row (firing 7 x.object x.row.row)) _ kind).0),
-              (
-                (λ s kind. by_shop 8 x.object x.row.row s (id_leaves f.substrates f.shop x.object x.row.row) (id_access f.shop x.object x.row.row)),
-                (
-                  (λ s kind. slots-work x.object x.row.row s (not-true _ (sym (or-false (not (reaches_verified x.row.row))) ∙ kind))),
-                  (
-                    (λ s kind. accessing-works x.object x.row.row (not-true _ kind) s),
-                    (
-                      (λ s kind. location-works x.object x.row.row),
-                      ((λ s kind. absurd (cc)), ((λ s kind. absurd (cc)), ((λ s kind. absurd (cc)), ((λ s kind. absurd (cc)), ((λ s kind. absurd (cc)), tt))))),
-                    ),
-                  ),
-                ),
-              ),
-            ),
-          ),
-        ),
-      )
-      starts kind
+      starts_cases (λ (y : Firing). is_shop_row y ≡ true → Keeps (floor_fired y f)) f x (record {
+        transfer = λ s kind. by_shop 4 x.object x.row.row s (transfer_leaves f.substrates f.shop x.object x.row.row) (transfer_access f.shop x.object x.row.row);
+        access = λ s kind. by_shop 5 x.object x.row.row s (mode_leaves f.substrates f.shop x.object x.row.row) (mode_access f.shop x.object x.row.row);
+        reservation = λ s kind. by_shop 6 x.object x.row.row s (reservation_leaves f.substrates f.shop x.object x.row.row) (reservation_access f.shop x.object x.row.row);
+        association = λ s kind. association-works x.object x.row.row s (and_parts (is_plain_row (firing 7 x.object x.row.row)) _ kind).0;
+        id = λ s kind. by_shop 8 x.object x.row.row s (id_leaves f.substrates f.shop x.object x.row.row) (id_access f.shop x.object x.row.row);
+        map = λ s kind. slots-work x.object x.row.row s (not-true _ (sym (or-false (not (reaches_verified x.row.row))) ∙ kind));
+        accessing = λ s kind. accessing-works x.object x.row.row (not-true _ kind) s;
+        location = λ s kind. location-works x.object x.row.row;
+        transport = λ s kind. absurd (cc);
+        processing = λ s kind. absurd (cc);
+        process_job = λ s kind. absurd (cc);
+        control_job = λ s kind. absurd (cc);
+        move = λ s kind. absurd (cc);
+      }) starts kind
 
 -- so it executes on behind them
 pub shop_row-executes : (number : ℕ) (counted : ℕ → Bool) (f : ToolFloor) → Sound f → Executes number counted f → (x : Firing) → floor_starts x f ≡ true → is_shop_row x ≡ true

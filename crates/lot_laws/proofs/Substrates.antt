@@ -1,10 +1,10 @@
 -- A control job executes on behind the rows of tables 12 and 13 that fire by themselves.
-use Rattle.std.proofs.Common.{◌≡◌, ℕ, ◌==◌, Bool, true, false, not, ◌&&◌, List, map, Option, Some, None, option_map, refl, sym, ◌∙◌, ap, subst, ◌⊎◌, inl, inr, arith}
+use Rattle.std.proofs.Common.{◌≡◌, ℕ, ◌==◌, Bool, true, false, not, ◌&&◌, List, map, Option, Some, None, option_map, refl, sym, ◌∙◌, ap, subst, ◌⊎◌, inl, inr}
 use Rattle.std.proofs.lemmas.Bool.{true≢false}
 use Rattle.std.proofs.lemmas.Bool.Decides.{Decides-eqb}
 use Rattle.gem_tables.specs.Table.{is_one_of, after}
 use Rattle.gem_tables.proofs.Rows.{both}
-use Rattle.substrate.specs.Tables.{transport_number, transport_table, processing_number}
+use Rattle.substrate.specs.Tables.{transport_number, transport_table}
 use Rattle.substrate.specs.Record.{is_at_source, is_needing}
 use Rattle.substrate.specs.declared.record.Transport.{Transport}
 use Rattle.substrate.specs.declared.record.Transport.TheVariants as transport
@@ -19,10 +19,10 @@ use Rattle.floor_model.specs.Machines.{substrate_moves, with_moved}
 use Rattle.floor_moves.specs.Floor as law
 use Rattle.floor_moves.specs.Floor.{is_done}
 use Rattle.floor_moves.specs.Agree.{Agree}
-use Rattle.place_laws.specs.Picture.{picture, of_one}
+use Rattle.place_laws.specs.Picture.{picture}
 use Rattle.place_laws.specs.Sound.{Sound}
-use Rattle.picture_laws.proofs.Columns.{unknown_none, numbers_same, says_same, found_there, found_else}
-use Rattle.picture_laws.proofs.JobViews.{substrates_alike}
+use Rattle.picture_laws.proofs.Columns.{found_there, found_else}
+use Rattle.picture_laws.proofs.Rows.{transport_agrees}
 use Rattle.floor_laws.proofs.JobSight.{none_some, some_same, outside_same}
 use Rattle.floor_laws.proofs.JobSays.{member_tells}
 use Rattle.floor_laws.proofs.JobLists.{none_first}
@@ -30,7 +30,7 @@ use Rattle.owed_laws.specs.Owed.{owed_to}
 use Rattle.owed_laws.proofs.Agreeing.{agree-undisturbed, agree-owed}
 use Rattle.lot_laws.specs.Lot.{is_in_named_slot, IsInJob, Waits, Executes}
 use Rattle.lot_laws.proofs.Standing.{on_base, joins_tell, undisturbed}
-use Rattle.place_laws.proofs.Holding.{IsOne, found_among}
+use Rattle.place_laws.proofs.Holding.{found_among}
 use Rattle.robot_moves.specs.declared.module.Module.{Module as ToolModule}
 use Rattle.owed_laws.specs.Undisturbed.{SubstratesStand}
 
@@ -110,27 +110,7 @@ source_stays row _ two e = absurd (true≢false (sym e))
 module _ (number : ℕ) (counted : ℕ → Bool) (f : ToolFloor) (h : Sound f) (e : Executes number counted f) (n row : ℕ) where
   -- what the table of transport changes isn't looked at by numbers
   moved_agrees : Agree (picture f) (picture (with_moved 12 row n f))
-  moved_agrees = record {
-    substrates = numbers_same n (substrate_moves 12 row) (λ s. refl) f.substrates;
-    next_substrate = refl;
-    carrier_of = λ k _. says_same n (substrate_moves 12 row) (λ s. refl) 0 _ (λ s. refl) k f.substrates;
-    port_of = λ k _. says_same n (substrate_moves 12 row) (λ s. refl) 0 _ (λ s. refl) k f.substrates;
-    slot_of = λ k _. says_same n (substrate_moves 12 row) (λ s. refl) 0 _ (λ s. refl) k f.substrates;
-    place_of = λ k. refl;
-    processing = λ k _. says_same n (substrate_moves 12 row) (λ s. refl) 0 _ (λ s. refl) k f.substrates;
-    unknown = λ k e one. unknown_is k e (sym (says_same n (substrate_moves 12 row) (λ s. refl) 0 _ (λ s. refl) k f.substrates) ∙ one);
-    is_aligned = λ k _. says_same n (substrate_moves 12 row) (λ s. refl) false _ (λ s. refl) k f.substrates;
-    carriers = refl;
-    present_at = λ c. refl;
-    is_verified = λ c _. refl;
-    access = λ c _. refl;
-    jobs = substrates_alike _ f.jobs f.shop.carriers f.substrates _ (λ B else_ says k. says_same n (substrate_moves 12 row) (λ s. refl) else_ (λ s. says s.job) (λ s. refl) k f.substrates);
-    chambers = refl;
-    equipment = λ m. refl;
-    next_command = refl;
-  } where
-    unknown_is : (k : ℕ) → is_one_of (map number_of f.substrates) k ≡ false → of_one 0 (λ (s : Substrate). processing_number s.states.processing) (substrate_numbered k f.substrates) ≡ 1 → ⊥
-    unknown_is k e one = let z : IsOne 0 = sym (ap (of_one 0 (λ (s : Substrate). processing_number s.states.processing)) (unknown_none k f.substrates e)) ∙ one in omega (arith, z)
+  moved_agrees = transport_agrees f n row
 
   -- the row of the number starts: 2 where the substrate is outside
   module _ (starts : (x : Substrate) → substrate_numbered n f.substrates ≡ Some x → (row == 2) ≡ true → is_outside x f.places ≡ true) where

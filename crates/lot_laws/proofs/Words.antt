@@ -5,7 +5,7 @@ use Rattle.std.proofs.lemmas.Bool.{true≢false}
 use Rattle.std.proofs.lemmas.Bool.Decides.{Decides-eqb}
 use Rattle.gem_tables.specs.Table.{is_one_of, row_of, found_starts, firing, after}
 use Rattle.gem_tables.specs.declared.firing.Firing.{Firing}
-use Rattle.gem_tables.proofs.Machines.{starts_cases}
+use Rattle.floor_model.proofs.EachTable.{starts_cases}
 use Rattle.gem_tables.proofs.Rows.{one_of_cases}
 use Rattle.process_job.specs.Tables.{JobWant, job_number, job_table}
 use Rattle.process_job.specs.Jobs.{job_numbered, without_numbered, fires_row}
@@ -28,7 +28,7 @@ use Rattle.tool_jobs.specs.Creating.{with_process, with_control, control_fault}
 use Rattle.tool_jobs.proofs.Rows.{stays_passive, after_meets}
 use Rattle.floor_model.specs.Floor.{ToolFloor, with_jobs}
 use Rattle.floor_model.specs.Jobs.{freed, sight, found_sight, is_first_here}
-use Rattle.floor_model.specs.Machines.{floor_machines, floor_starts, floor_fired}
+use Rattle.floor_model.specs.Machines.{floor_starts, floor_fired}
 use Rattle.place_laws.specs.Picture.{picture}
 use Rattle.place_laws.specs.Sound.{Sound}
 use Rattle.floor_laws.proofs.JobSight.{some_same}
@@ -274,37 +274,21 @@ module _ (number : ℕ) (counted : ℕ → Bool) (before f : ToolFloor) (h : Sou
     of (Some d) q st = control_word m d q goes row one st
 
   word_at : (x : Firing) → is_word x ≡ true → floor_starts x f ≡ true → Goes f → Goes (floor_fired x f)
-  word_at x word starts goes = starts_cases (λ (y : Firing). is_word y ≡ true → Goes (floor_fired y f)) f x floor_machines (
-    (λ st k. absurd (cc)),
-    (
-      (λ st k. absurd (cc)),
-      (
-        (λ st k. absurd (cc)),
-        (
-          (λ st k. absurd (cc)),
-          (
-            (λ st k. absurd (cc)),
-            (
-              (λ st k. absurd (cc)),
-              (
-                (λ st k. absurd (cc)),
-                (
-                  (λ st k. absurd (cc)),
-                  (
-                    (λ st k. absurd (cc)),
-                    (
-                      (λ st k. absurd (cc)),
-                      ((λ st k. process_at goes x.object x.row.row (sym (or-false (is_one_of process_words x.row.row)) ∙ k) st), ((λ st k. control_at goes x.object x.row.row k st), ((λ st k. absurd (cc)), tt))),
-                    ),
-                  ),
-                ),
-              ),
-            ),
-          ),
-        ),
-      ),
-    ),
-  ) starts word
+  word_at x word starts goes = starts_cases (λ (y : Firing). is_word y ≡ true → Goes (floor_fired y f)) f x (record {
+    transfer = λ st k. absurd (cc);
+    access = λ st k. absurd (cc);
+    reservation = λ st k. absurd (cc);
+    association = λ st k. absurd (cc);
+    id = λ st k. absurd (cc);
+    map = λ st k. absurd (cc);
+    accessing = λ st k. absurd (cc);
+    location = λ st k. absurd (cc);
+    transport = λ st k. absurd (cc);
+    processing = λ st k. absurd (cc);
+    process_job = λ st k. process_at goes x.object x.row.row (sym (or-false (is_one_of process_words x.row.row)) ∙ k) st;
+    control_job = λ st k. control_at goes x.object x.row.row k st;
+    move = λ st k. absurd (cc);
+  }) starts word
 
 -- ---- as laws
 

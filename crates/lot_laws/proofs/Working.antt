@@ -70,7 +70,6 @@ module _ (number : ℕ) (counted : ℕ → Bool) (f : ToolFloor) (sound : Sound 
           stays = λ t. absurd (true≢false (sym t ∙ unfinished));
           picked = λ m p k c i t. refl;
           processed = λ m c i t. refl;
-          in_process = λ one. its;
         } in
         let valid : Valid (worked n (state_behind 2 s) (picture f)) = worked-keeps (picture f) n (state_behind 2 s) (subst (λ (k : ℕ). MayWork n k (picture f)) (sym goes) may) sound.valid in
         let stays = worked-stays counted (picture f) u n (state_behind 2 s) (ap law.is_finished goes ∙ sym unfinished) in

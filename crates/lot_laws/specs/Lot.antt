@@ -23,6 +23,7 @@ use Rattle.floor_model.specs.Substrates.{reaches_verified}
 use Rattle.floor_model.specs.Machines.{floor_fired}
 use Rattle.floor_moves.specs.Floor.{is_done}
 use Rattle.place_laws.specs.Picture.{picture, of_substrate}
+use Rattle.place_laws.specs.Processed.{AreProcessed}
 use Rattle.place_laws.specs.Sound.{Sound}
 use Rattle.owed_laws.specs.Owed.{owed_to}
 use Rattle.owed_laws.specs.Undisturbed.{SubstratesStand, AreUnaligned}
@@ -106,7 +107,7 @@ GoesOnOrCompletes number counted f x =
 abbrev pub TakesOneOff : ℕ → (ℕ → Bool) → ToolFloor → ToolFloor → Type 0
 TakesOneOff number counted f g = Executes number counted g × (owed_to counted (picture g) + 1 ≡ owed_to counted (picture f))
 
--- ---- what holds on the floor at every moment
+-- ---- what holds on the floor at every moment, but between two rows that one input fires
 
 pub record InOrder (f : ToolFloor) : Type 0 where
   pub sound : Sound f
@@ -114,6 +115,7 @@ pub record InOrder (f : ToolFloor) : Type 0 where
   pub started : AreStarted f.jobs
   pub unaligned : AreUnaligned (picture f)
   pub in_jobs : AreInKeptJobs f
+  pub processed : AreProcessed f.modules f.substrates
 
 -- ---- what disturbs it
 

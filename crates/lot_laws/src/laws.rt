@@ -1,6 +1,6 @@
 //! Laws of a control job that executes undisturbed, for proofs to cite. Each function is empty: what it ensures holds of the definitions.
 
-ghost use Rattle.std.specs.Prelude.{◌≡◌, ◌≤◌, ℕ, ◌*◌, Bool, true, false, List, [], ◌∷◌, Option, Some, None};
+ghost use Rattle.std.specs.Prelude.{◌≡◌, ◌≤◌, ℕ, Bool, true, false, List, [], ◌∷◌, Option, Some, None};
 ghost use Rattle.std.specs.List.{AllByRecursion};
 ghost use Rattle.gem_tables.specs.declared.firing.Firing.{Firing};
 ghost use Rattle.tool_tasks.specs.declared.task.Command.{Command};
@@ -18,6 +18,7 @@ ghost use Rattle.shop_floor.specs.Requests.{came, carrier_code, carrier_written}
 ghost use Rattle.shop_floor.specs.Rows.{owner};
 ghost use Rattle.floor_model.specs.Signals.{done_row, done_rows, closing_rows, lost_rows};
 ghost use Rattle.floor_moves.specs.Floor.{chamber};
+ghost use Rattle.floor_moves.specs.Valid.{IsUnnamed};
 ghost use Rattle.gem_tables.specs.Table.{firing, is_one_of};
 ghost use Rattle.process_job.specs.Jobs.{job_numbered as process_numbered};
 ghost use Rattle.process_job.specs.Creating.{create_fault};
@@ -33,9 +34,9 @@ ghost use Rattle.floor_model.specs.Floor.{ToolFloor, opening, with_shop, with_jo
 ghost use Rattle.floor_model.specs.Jobs.{is_first_here, is_any_of_carrier};
 ghost use Rattle.floor_model.specs.Machines.{floor_starts, floor_fired, floor_least};
 ghost use Rattle.place_laws.specs.Picture.{picture};
-ghost use Rattle.place_laws.specs.Sound.{Sound, SoundBut};
+ghost use Rattle.place_laws.specs.Sound.{Sound};
 ghost use Rattle.floor_laws.specs.Rows.{is_common, listed};
-ghost use Rattle.owed_laws.specs.Owed.{owed_to, number_of};
+ghost use Rattle.owed_laws.specs.Owed.{owed_to, commands_of};
 ghost use Rattle.owed_laws.specs.Undisturbed.{AreUnaligned, Undisturbed};
 ghost use Rattle.queue_laws.specs.Started.{AreStarted};
 ghost use Rattle.queue_laws.specs.Steers.{AreAutomatic, disturbs_process, disturbs_control, is_completion};
@@ -43,7 +44,7 @@ ghost use Rattle.lot_laws.specs.Lot.{counted_of, IsMaterialHere, AreInKeptJobs, 
 ghost use Rattle.lot_laws.specs.Lot.{InOrder, IsCalmBetween, WorksOrIsDisturbed, is_word};
 
 /// As a control job starts by row 4 or 5 of table 15, where each process job that is left in it starts by itself and its material is
-/// here, it executes undisturbed, and eight Dones are owed for each substrate that is counted.
+/// here, it executes undisturbed, and a Done is owed for each command of each substrate that is counted.
 pub fn a_control_job_starts_with_its_material_in_place()
     ensures executes { (number row : ℕ) (f : ToolFloor) (c : ControlJob) → Sound f → AreTogether f.jobs → AreStarted f.jobs
         → AreUnaligned (picture f) → AreInKeptJobs f → control_numbered number f.jobs.control.jobs ≡ Some c
@@ -53,7 +54,7 @@ pub fn a_control_job_starts_with_its_material_in_place()
         → AreUnaligned (picture f) → AreInKeptJobs f → control_numbered number f.jobs.control.jobs ≡ Some c
         → control_starts row (Some c) (is_first_here number f) f.jobs ≡ true → is_one_of (4 ∷ 5 ∷ []) row ≡ true
         → AreAutomatic number f.jobs → IsMaterialHere number f
-        → owed_to (counted_of number f) (picture (floor_fired (firing 15 number row) f)) ≡ 8 * number_of (counted_of number f) (picture f) }
+        → owed_to (counted_of number f) (picture (floor_fired (firing 15 number row) f)) ≡ commands_of (counted_of number f) (picture f) }
 {}
 
 /// While it executes, its substrates stand undisturbed.
@@ -111,7 +112,8 @@ pub fn done_of_a_command_takes_one_off()
     ensures closed_as_much { (number : ℕ) (counted : ℕ → Bool) (f : ToolFloor) (m : ℕ) (c : Command) (fetched : Bool) → Sound f
         → Executes number counted f → module_at m f.modules ≡ Some (Busy c fetched)
         → owed_to counted (picture (floor_fired (firing 16 m 7) f)) ≡ owed_to counted (picture f) }
-    ensures processed { (number : ℕ) (counted : ℕ → Bool) (f : ToolFloor) (n row d : ℕ) → SoundBut n f → Executes number counted f
+    ensures processed { (number : ℕ) (counted : ℕ → Bool) (f : ToolFloor) (n row d : ℕ) → Sound f → IsUnnamed n (picture f)
+        → Executes number counted f
         → is_one_of (3 ∷ 4 ∷ []) row ≡ true → floor_starts (firing 13 n row) f ≡ true → (picture f).place_of n ≡ Some (chamber d)
         → (picture f).jobs.is_member n ≡ true → TakesOneOff number counted f (floor_fired (firing 13 n row) f) }
 {}

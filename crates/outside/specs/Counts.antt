@@ -40,6 +40,13 @@ pub record FileCounts : Type 0 where
   -- how many reads of a buffer that isn't empty were answered 0
   pub ends : ℕ
 
+-- a file as a disk, which tells no content (this tool's profile, durable spool)
+pub record DiskCounts : Type 0 where
+  -- where the file is
+  pub path : List ℕ
+  -- how many calls failed
+  pub faults : ℕ
+
 -- a way out to a peer that tells no content (this tool's profile, links and doors of the system)
 pub record LinkOutCounts : Type 0 where
   -- how many writes failed

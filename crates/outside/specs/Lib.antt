@@ -1,4 +1,5 @@
 pub mod Counts
+pub mod Disk
 pub mod Doors
 pub mod Memory
 pub mod Readings

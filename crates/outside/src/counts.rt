@@ -1,4 +1,4 @@
-ghost use Rattle.std.specs.Prelude.{◌≡◌, ◌<◌, ◌≤◌, ◌==◌, ◌&&◌, nat_lt, if◌then◌else◌, Ok, IfOk, OnErr, is_err};
+ghost use Rattle.std.specs.Prelude.{◌≡◌, ◌<◌, ◌≤◌, ◌==◌, ◌&&◌, nat_lt, if◌then◌else◌, Ok, IfOk, OnOk, OnErr, is_err};
 ghost use Rattle.outside.specs.Counts.{Rose, one_more};
 ghost use Rattle.outside.specs.Memory.{is_zero_of};
 
@@ -65,5 +65,19 @@ impl Counts {
         };
         self.answered(n, asked);
         Ok(n)
+    }
+
+    // Counts a call that failed, and hands on what it was answered.
+    pub(crate) fn passed<T: Drop, E: Drop>(&mut self, answer: Result<T, E>) -> Result<T, Failed>
+        ensures same { IfOk result (λ x. answer ≡ Ok x) }
+        ensures failed { OnErr result (Rose self.old.faults self.new.faults) }
+        ensures unfailed { OnOk result (self.new.faults ≡ self.old.faults) }
+        ensures faults_stay { self.old.faults ≤ self.new.faults }
+    {
+        let Ok(given) = answer else {
+            self.failed();
+            return Err(Failed);
+        };
+        Ok(given)
     }
 }

@@ -2,7 +2,8 @@
 //! hold who passes them, or let who has nothing to do sleep until there is news. A `Source` and a `Sink` say in their
 //! contracts what is left and what is held, where they tell it, and count their faults, so that code above can prove that it
 //! gives up only where something outside failed. A `LinkIn` and a `LinkOut` are both ends of a link, and a `Door` gives links.
-//! The crate has all of these in memory, those that can fail with a list of calls that are to, and thin adapters of a file,
+//! A `Disk` keeps bytes that outlive the power. The crate has all of these in memory, but for the disk, which `mem_disk` has, those that
+//! can fail with a list of calls that are to, and thin adapters of files,
 //! standard input and standard output, TCP and the system's clock, which tell no content. It buffers nothing but what
 //! a `TcpOut` keeps until it is flushed; `write_all` writes on until all is written. What an adapter that waits has to know of a run, `RunSigns` tell it. Begin with the
 //! traits; a test begins with `MemSource::new` and `MemSink::new`, and with `MemDoor::new` for links.
@@ -11,7 +12,9 @@
 mod bell;
 mod clock;
 mod counts;
+mod disk;
 mod door;
+mod file_disk;
 mod file_source;
 mod gate;
 mod gates;
@@ -41,7 +44,9 @@ mod wake_gate;
 mod write;
 
 pub use clock::Clock;
+pub use disk::Disk;
 pub use door::Door;
+pub use file_disk::FileDisk;
 pub use file_source::FileSource;
 pub use gate::{Gate, Point};
 pub use gates::{HoldGate, OpenGate, SleepGate};

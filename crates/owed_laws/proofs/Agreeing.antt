@@ -5,8 +5,8 @@ use Rattle.floor_moves.specs.Floor.{Loc, slot, arm, chamber, Floor, is_finished}
 use Rattle.floor_moves.specs.Sums.{sum_of}
 use Rattle.floor_moves.specs.Valid.{Valid}
 use Rattle.floor_moves.specs.Agree.{Agree}
-use Rattle.owed_laws.specs.Owed.{owed_at, owed, owed_to, number_of}
-use Rattle.owed_laws.specs.Undisturbed.{AreUnaligned, Undisturbed, AreInProcess}
+use Rattle.owed_laws.specs.Owed.{owed_at, owed, owed_to, commands_of}
+use Rattle.owed_laws.specs.Undisturbed.{AreUnaligned, Undisturbed}
 use Rattle.owed_laws.proofs.Totals.{sum_same}
 use Rattle.floor_moves.proofs.Agreeing.{place_back, busy_back, kept_back, finished_same}
 
@@ -21,20 +21,14 @@ module _ (g h : Floor) (a : Agree g h) where
   agree-owed counted =
       ap (λ (ns : List ℕ). sum_of (owed h) (filter counted ns)) a.substrates ∙ sum_same counted (owed h) (owed g) g.substrates (λ n kept _. owed_same n kept)
 
-  pub agree-number : (counted : ℕ → Bool) → number_of counted h ≡ number_of counted g
-  agree-number counted = ap (λ (ns : List ℕ). number_of counted (record g { substrates = ns })) a.substrates
+  pub agree-commands : (counted : ℕ → Bool) → commands_of counted h ≡ commands_of counted g
+  agree-commands counted = ap (λ (ns : List ℕ). commands_of counted (record g { substrates = ns })) a.substrates
 
   pub agree-unaligned : Valid g → AreUnaligned g → AreUnaligned h
   agree-unaligned v u n p k at f =
       let was = place_back g h a n _ at in
       let kept = v.places.kept n (slot p k) was in
       a.is_aligned n kept ∙ u n p k was (sym (finished_same g h a n kept) ∙ f)
-
-  pub agree-in_process : Valid g → AreInProcess g → AreInProcess h
-  agree-in_process v working m n c is t =
-      let was = busy_back g h a m _ is in
-      let s = v.commands.processes m n c was t in
-      a.processing n (v.places.kept n (chamber s.0) s.2) ∙ working m n c was t
 
   pub agree-undisturbed : (counted : ℕ → Bool) → Valid g → Undisturbed counted g → Undisturbed counted h
   agree-undisturbed counted v u = record {

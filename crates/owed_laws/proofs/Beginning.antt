@@ -1,12 +1,12 @@
--- As a control job starts nothing is disturbed, and eight Dones are owed for each counted substrate; at the end none is owed.
-use Rattle.std.proofs.Common.{◌≡◌, ℕ, ◌*◌, Bool, true, false, not, ◌&&◌, Option, Some, None, refl, ap, ◌∙◌, arith}
+-- As a control job starts nothing is disturbed, and a Done is owed for each command of each counted substrate; at the end none is owed.
+use Rattle.std.proofs.Common.{◌≡◌, ℕ, Bool, true, false, not, ◌&&◌, Option, Some, None, refl, ap, ◌∙◌, arith}
 use Rattle.std.proofs.lemmas.Bool.{false_from_ne_true}
 use Rattle.gem_tables.specs.Table.{is_one_of}
 use Rattle.floor_moves.specs.Floor.{Loc, slot, aligner, arm, chamber, named, Floor, own, is_outside, is_finished, is_done}
 use Rattle.floor_moves.specs.Valid.{Valid}
-use Rattle.owed_laws.specs.Owed.{owed_at, owed, owed_to, number_of}
+use Rattle.owed_laws.specs.Owed.{owed_at, owed, owed_to, commands_for, commands_of}
 use Rattle.owed_laws.specs.Undisturbed.{AreUnaligned, Begins, Undisturbed}
-use Rattle.owed_laws.proofs.Totals.{sum_is_zero, sum_zero, sum_eight}
+use Rattle.owed_laws.proofs.Totals.{sum_same, sum_is_zero, sum_zero}
 
 -- ---- the beginning
 
@@ -43,19 +43,19 @@ module _ (counted : ℕ → Bool) (g : Floor) (v : Valid g) (b : Begins counted 
   begins_inside n kept is = by (g.place_of n) refl
     where
       by : (p : Option Loc) → g.place_of n ≡ p → p ≡ Some (own n g)
-      by None e = absurd (let w = v.work.removed n kept e in let z = unfinished n kept is in cc)
+      by None e = absurd (let w = v.removed n kept e in let z = unfinished n kept is in cc)
       by (Some (slot p k)) e = ap (λ (l : Loc). Some l) (v.places.home n p k e)
       by (Some aligner) e = absurd (let w = inside n in let z = ap is_outside e in cc)
       by (Some arm) e = absurd (let w = inside n in let z = ap is_outside e in cc)
       by (Some (chamber d)) e = absurd (let w = inside n in let z = ap is_outside e in cc)
 
-  eight : (n : ℕ) → is_one_of g.substrates n ≡ true → counted n ≡ true → owed g n ≡ 8
-  eight n kept is =
+  each_owed : (n : ℕ) → is_one_of g.substrates n ≡ true → counted n ≡ true → owed g n ≡ commands_for g n
+  each_owed n kept is =
       ap (λ (p : Option Loc). owed_at p (is_finished (g.processing n)) (g.is_aligned n)) (begins_inside n kept is)
       ∙ ap (λ (f : Bool). owed_at (Some (own n g)) f (g.is_aligned n)) (unfinished n kept is)
 
-  pub begins_owed : owed_to counted g ≡ 8 * number_of counted g
-  begins_owed = sum_eight counted (owed g) g.substrates eight
+  pub begins_owed : owed_to counted g ≡ commands_of counted g
+  begins_owed = sum_same counted (owed g) (commands_for g) g.substrates each_owed
 
 -- ---- the end
 
@@ -80,7 +80,7 @@ owed_done g n v kept z = by (g.place_of n) refl (is_finished (g.processing n)) r
   where
     by : (p : Option Loc) → g.place_of n ≡ p → (f : Bool) → is_finished (g.processing n) ≡ f → (a : Bool) → owed_at p f a ≡ 0 → (f && not (is_outside p)) ≡ true
     by None e true q a z = refl
-    by None e false q a z = let f = v.work.removed n kept e in absurd (cc)
+    by None e false q a z = let f = v.removed n kept e in absurd (cc)
     by (Some (slot x k)) e true q a z = refl
     by (Some (slot x k)) e false q a z = absurd (omega (arith, z))
     by (Some aligner) e true q true z = absurd (omega (arith, z))

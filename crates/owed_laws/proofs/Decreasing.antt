@@ -2,7 +2,7 @@
 use Rattle.std.proofs.Common.{◌≡◌, ℕ, ◌+◌, Bool, true, false, ◌||◌, Option, Some, refl, sym, ap, subst, ◌∙◌, ◌⊎◌, inl, inr, arith}
 use Rattle.floor_moves.specs.Floor.{Loc, slot, aligner, arm, chamber, Task, pick, place, align, named, Command, idle, busy, Floor, set, is_outside, is_finished}
 use Rattle.floor_moves.specs.Effects.{worked, moved, aligned}
-use Rattle.floor_moves.specs.Valid.{PickStands, PlaceStands, AlignStands, Valid, ValidBut}
+use Rattle.floor_moves.specs.Valid.{PickStands, PlaceStands, AlignStands, IsUnnamed, Valid}
 use Rattle.floor_moves.proofs.Maps.{set_tells, set_here, set_else, set_both}
 use Rattle.floor_moves.proofs.Issuing.{left_open}
 use Rattle.floor_moves.proofs.Moving.{idle_not_busy}
@@ -14,8 +14,8 @@ use Rattle.owed_laws.proofs.Columns.{OneLess}
 -- ---- a Process, behind the row that closes it
 
 -- The substrate of a Process that was closed is finished: one less is owed.
-pub finished-falls : (counted : ℕ → Bool) (g : Floor) (n d state : ℕ) → ValidBut n g → Undisturbed counted g → g.place_of n ≡ Some (chamber d) → is_finished (g.processing n) ≡ false → is_finished state ≡ true → OneLess counted g (worked n state g)
-finished-falls counted g n d state b u at unfinished ends = (
+pub finished-falls : (counted : ℕ → Bool) (g : Floor) (n d state : ℕ) → IsUnnamed n g → Valid g → Undisturbed counted g → g.place_of n ≡ Some (chamber d) → is_finished (g.processing n) ≡ false → is_finished state ≡ true → OneLess counted g (worked n state g)
+finished-falls counted g n d state unnamed v u at unfinished ends = (
   record {
     jobs = record {
       members = u.jobs.members;
@@ -28,11 +28,11 @@ finished-falls counted g n d state b u at unfinished ends = (
       finished = λ k kept is f. set_both n k state g.processing (λ x. is_finished x ≡ true → g.is_aligned k ≡ true) (λ same _. ap g.is_aligned same ∙ u.substrates.in_chamber n d at) (λ other old. u.substrates.finished k kept is old) f;
       in_chamber = u.substrates.in_chamber;
       in_slot = λ k p q there f. u.substrates.in_slot k p q there (was_unfinished k f);
-      to_chamber = λ m k c e o t. ap is_finished (set_else n k state g.processing (λ same. b.unnamed m e o (ap named t ∙ same))) ∙ u.substrates.to_chamber m k c e o t;
+      to_chamber = λ m k c e o t. ap is_finished (set_else n k state g.processing (λ same. unnamed m e o (ap named t ∙ same))) ∙ u.substrates.to_chamber m k c e o t;
       not_given = u.substrates.not_given;
     };
   },
-  sum_falls counted (owed g) (owed (worked n state g)) n g.substrates b.places.distinct (b.places.kept n (chamber d) at) (u.jobs.members n (b.members.outside n (ap is_outside at)))
+  sum_falls counted (owed g) (owed (worked n state g)) n g.substrates v.places.distinct (v.places.kept n (chamber d) at) (u.jobs.members n (v.members.outside n (ap is_outside at)))
       (falls ∙ ap (λ (x : ℕ). owed_at (g.place_of n) (is_finished x) (g.is_aligned n) + 1) (sym (set_here n state g.processing)))
       (λ k other. ap (λ (x : ℕ). owed_at (g.place_of k) (is_finished x) (g.is_aligned k)) (sym (set_else n k state g.processing other))),
 )

@@ -1,5 +1,5 @@
 -- Sums over the substrates that are kept and counted.
-use Rattle.std.proofs.Common.{◌≡◌, ℕ, suc, ◌+◌, ◌*◌, ◌==◌, Bool, true, false, List, [], ◌∷◌, ◌++◌, filter, length, cond, refl, sym, ap, subst, ◌∙◌, ◌⊎◌, inl, inr, arith}
+use Rattle.std.proofs.Common.{◌≡◌, ℕ, ◌+◌, ◌==◌, Bool, true, false, List, [], ◌∷◌, ◌++◌, filter, cond, refl, sym, ap, subst, ◌∙◌, ◌⊎◌, inl, inr, arith}
 use Rattle.std.proofs.lemmas.Bool.{or_right}
 use Rattle.gem_tables.specs.Table.{is_one_of}
 use Rattle.floor_moves.specs.Sums.{sum_of}
@@ -54,18 +54,6 @@ sum_zero counted w (m ∷ ns) z n i c = by (counted m) refl z (one_of_tells m ns
     by true q y (inr t) rest = rest (omega (arith, y)) t
     by false q y (inl e) rest = absurd (let yes : counted m ≡ true = ap counted (sym e) ∙ c in cc)
     by false q y (inr t) rest = rest y t
-
--- eight times as many, where each weighs eight
-pub sum_eight : (counted : ℕ → Bool) (w : ℕ → ℕ) (ns : List ℕ) → ((n : ℕ) → is_one_of ns n ≡ true → counted n ≡ true → w n ≡ 8) → sum_of w (filter counted ns) ≡ 8 * length (filter counted ns)
-sum_eight counted w [] each = refl
-sum_eight counted w (n ∷ ns) each = by (counted n) refl (sum_eight counted w ns (λ m i. each m (or_right (n == m) (is_one_of ns m) i)))
-  where
-    by : (b : Bool) → counted n ≡ b → sum_of w (filter counted ns) ≡ 8 * length (filter counted ns) → sum_of w (cond b (n ∷ filter counted ns) (filter counted ns)) ≡ 8 * length (cond b (n ∷ filter counted ns) (filter counted ns))
-    by true e rest =
-        let here = each n (first_of n ns) e in
-        let more : length (n ∷ filter counted ns) ≡ suc (length (filter counted ns)) = refl in
-        omega (arith, here, rest, more)
-    by false e rest = rest
 
 -- the same, with one behind that isn't counted
 pub sum_behind : (counted : ℕ → Bool) (w : ℕ → ℕ) (ns : List ℕ) (x : ℕ) → counted x ≡ false → sum_of w (filter counted (ns ++ x ∷ [])) ≡ sum_of w (filter counted ns)

@@ -1,6 +1,5 @@
--- The Dones that are still to come for substrates (after SEMI E90; this tool's profile, moves). A substrate goes from its slot to
--- the aligner, is aligned, goes to a chamber, is processed, and goes back to its slot: that is eight commands.
-use Rattle.std.specs.Prelude.{ℕ, ◌+◌, ◌*◌, Bool, if◌then◌else◌, filter, length, Option, Some, None}
+-- The Dones that are still to come for substrates (after SEMI E90; this tool's profile, moves).
+use Rattle.std.specs.Prelude.{ℕ, ◌+◌, ◌*◌, Bool, if◌then◌else◌, filter, Option, Some, None}
 use Rattle.floor_moves.specs.Floor.{Loc, slot, aligner, arm, chamber, Floor, is_finished}
 use Rattle.floor_moves.specs.Sums.{sum_of}
 
@@ -25,6 +24,15 @@ owed g n = owed_at (g.place_of n) (is_finished (g.processing n)) (g.is_aligned n
 abbrev pub owed_to : (ℕ → Bool) → Floor → ℕ
 owed_to counted g = sum_of (owed g) (filter counted g.substrates)
 
--- how many are kept and counted
-abbrev pub number_of : (ℕ → Bool) → Floor → ℕ
-number_of counted g = length (filter counted g.substrates)
+-- the processing steps of the recipe of a substrate: one
+abbrev pub steps_of : Floor → ℕ → ℕ
+steps_of g n = 1
+
+-- The commands that take a substrate from its slot and back: it goes to the aligner, is aligned, and goes back from where it is
+-- processed, which are five with their Picks and Places; and a step takes three. That is eight, of one step.
+abbrev pub commands_for : Floor → ℕ → ℕ
+commands_for g n = 5 + 3 * steps_of g n
+
+-- the commands for all those that are kept and counted
+abbrev pub commands_of : (ℕ → Bool) → Floor → ℕ
+commands_of counted g = sum_of (commands_for g) (filter counted g.substrates)

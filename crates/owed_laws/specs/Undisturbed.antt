@@ -2,7 +2,7 @@
 -- and control jobs). Which substrates are counted is settled as the control job starts.
 use Rattle.std.specs.Prelude.{◌≡◌, ◌≤◌, ℕ, Bool, true, false, Some}
 use Rattle.gem_tables.specs.Table.{is_one_of}
-use Rattle.floor_moves.specs.Floor.{slot, chamber, place, process, Command, busy, Floor, is_finished}
+use Rattle.floor_moves.specs.Floor.{slot, chamber, place, Command, busy, Floor, is_finished}
 
 -- ---- at every moment
 
@@ -49,10 +49,6 @@ SubstratesStand counted g = record {
 pub record Undisturbed (counted : ℕ → Bool) (g : Floor) : Type 0 where
   pub jobs : JobsStand counted g
   pub substrates : SubstratesStand counted g
-
--- Each substrate that an open Process names is IN PROCESS: so it is wherever no row of table 13 is ready by itself.
-abbrev pub AreInProcess : Floor → Type 0
-AreInProcess g = (m n : ℕ) (c : Command) → g.equipment m ≡ busy c → c.task ≡ process n → g.processing n ≡ 1
 
 -- ---- as it starts
 

@@ -1,21 +1,22 @@
 //! Laws of what is owed to a control job, for proofs to cite. Each function is empty: what it ensures holds of the definitions.
 
-ghost use Rattle.std.specs.Prelude.{◌≡◌, ℕ, ◌*◌, ◌==◌, Bool, true, Some};
+ghost use Rattle.std.specs.Prelude.{◌≡◌, ℕ, ◌==◌, Bool, true, Some};
 ghost use Rattle.gem_tables.specs.Table.{is_one_of};
 ghost use Rattle.floor_moves.specs.Floor.{JobView, Floor, own, is_done};
 ghost use Rattle.floor_moves.specs.Effects.{transported, worked};
 ghost use Rattle.floor_moves.specs.Carriers.{created, arrived, verified, registered, forgotten, HasEnded, with_jobs};
 ghost use Rattle.floor_moves.specs.Valid.{Valid};
 ghost use Rattle.floor_moves.specs.Agree.{Agree};
-ghost use Rattle.owed_laws.specs.Owed.{owed_to, number_of};
-ghost use Rattle.owed_laws.specs.Undisturbed.{AreUnaligned, JobsStand, Undisturbed, AreInProcess, Begins};
+ghost use Rattle.owed_laws.specs.Owed.{owed_to, commands_of};
+ghost use Rattle.owed_laws.specs.Undisturbed.{AreUnaligned, JobsStand, Undisturbed, Begins};
 
-/// As a control job starts nothing is disturbed, each counted substrate is in its slot, and eight Dones are owed for each.
-pub fn eight_dones_are_owed_as_it_starts()
+/// As a control job starts nothing is disturbed, each counted substrate is in its slot, and a Done is owed for each command that
+/// takes a counted substrate from its slot through its steps and back.
+pub fn each_command_is_owed_as_it_starts()
     ensures undisturbed { (counted : ℕ → Bool) (g : Floor) → Valid g → AreUnaligned g → Begins counted g → Undisturbed counted g }
     ensures inside { (counted : ℕ → Bool) (g : Floor) (n : ℕ) → Valid g → Begins counted g
         → is_one_of g.substrates n ≡ true → counted n ≡ true → g.place_of n ≡ Some (own n g) }
-    ensures owed { (counted : ℕ → Bool) (g : Floor) → Valid g → Begins counted g → owed_to counted g ≡ 8 * number_of counted g }
+    ensures owed { (counted : ℕ → Bool) (g : Floor) → Valid g → Begins counted g → owed_to counted g ≡ commands_of counted g }
 {}
 
 /// Nothing is disturbed where a carrier is created, arrives at a port, is read, or is forgotten with its substrates, and where a
@@ -67,8 +68,7 @@ pub fn nothing_is_owed_where_each_is_done()
 /// What is said here is said of what is kept: floors that say the same of it agree.
 pub fn what_is_owed_is_said_of_what_is_kept()
     ensures owed { (counted : ℕ → Bool) (g h : Floor) → Agree g h → owed_to counted h ≡ owed_to counted g }
-    ensures number { (counted : ℕ → Bool) (g h : Floor) → Agree g h → number_of counted h ≡ number_of counted g }
+    ensures commands { (counted : ℕ → Bool) (g h : Floor) → Agree g h → commands_of counted h ≡ commands_of counted g }
     ensures undisturbed { (counted : ℕ → Bool) (g h : Floor) → Agree g h → Valid g → Undisturbed counted g → Undisturbed counted h }
     ensures unaligned { (g h : Floor) → Agree g h → Valid g → AreUnaligned g → AreUnaligned h }
-    ensures in_process { (g h : Floor) → Agree g h → Valid g → AreInProcess g → AreInProcess h }
 {}

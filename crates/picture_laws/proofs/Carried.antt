@@ -1,25 +1,19 @@
 -- What is done by a Pick or a Place moves in the floor by numbers, and its module is Idle.
-use Rattle.std.proofs.Common.{◌≡◌, ℕ, List, Some, refl, sym, ◌∙◌, ap, arith}
+use Rattle.std.proofs.Common.{◌≡◌, ℕ, List, Some, refl, ◌∙◌, ap}
 use Rattle.gem_ids.specs.declared.numbers.LocId.{LocId}
 use Rattle.robot_moves.specs.declared.module.Module.{Module}
 use Rattle.robot_moves.specs.declared.module.Module.TheVariants.{Idle}
 use Rattle.robot_moves.specs.Modules.{module_at, change_module}
-use Rattle.substrate.specs.Tables.{processing_number}
 use Rattle.substrate.specs.Places.{ArePlaces, substrate_named, moved}
 use Rattle.substrate.specs.declared.registered.Registered.{Registered}
-use Rattle.floor_model.specs.declared.tracked.Substrate.{Substrate}
 use Rattle.floor_model.specs.Floor.{ToolFloor, with_module}
 use Rattle.floor_moves.specs.Floor.{idle}
 use Rattle.floor_moves.specs.Effects.{moved as moved_by_numbers}
 use Rattle.floor_moves.specs.Agree.{Agree}
-use Rattle.place_laws.specs.Picture.{picture, loc_of, module_of, of_one}
+use Rattle.place_laws.specs.Picture.{picture, loc_of, module_of}
 use Rattle.picture_laws.proofs.JobViews.{alike_same}
-use Rattle.picture_laws.proofs.Columns.{unknown_none}
 use Rattle.picture_laws.proofs.Closing.{modules_behind}
 use Rattle.picture_laws.proofs.Moving.{moved_among, same_module}
-
-abbrev IsOne : ℕ → Type 0
-IsOne k = k ≡ 1
 
 pub moving_agrees : (m : ℕ) (change : Module → Module) (x : Module) (sub : List ℕ) (to : LocId) (found : Registered) (f : ToolFloor) → ArePlaces f.places → substrate_named sub f.places.held ≡ Some found → module_at m f.modules ≡ Some x → change x ≡ Idle → Agree (moved_by_numbers found.number (loc_of to) m (picture f)) (picture (with_module m change (record f { places = record f.places { held = moved sub to f.places.held } })))
 moving_agrees m change x sub to found f places known here is = record {
@@ -30,7 +24,6 @@ moving_agrees m change x sub to found f places known here is = record {
   slot_of = λ k _. refl;
   place_of = λ k. moved_among sub to 0 f.places.given f.places.held found places.named_apart places.numbered known k;
   processing = λ k _. refl;
-  unknown = λ k e one. let z : IsOne 0 = sym (ap (of_one 0 (λ (s : Substrate). processing_number s.states.processing)) (unknown_none k f.substrates e)) ∙ one in omega (arith, z);
   is_aligned = λ k _. refl;
   carriers = refl;
   present_at = λ c. refl;

@@ -1,23 +1,18 @@
 -- A command that is closed, and a module that goes down or comes up, does to the floor by numbers what the laws have.
-use Rattle.std.proofs.Common.{◌≡◌, ℕ, ◌==◌, Bool, true, false, if◌then◌else◌, map, Option, Some, option_map, refl, sym, ◌∙◌, ap, subst, arith}
+use Rattle.std.proofs.Common.{◌≡◌, ℕ, ◌==◌, Bool, true, false, if◌then◌else◌, Option, Some, option_map, refl, sym, ◌∙◌, ap, subst}
 use Rattle.std.proofs.lemmas.Bool.Decides.{Decides-eqb}
 use Rattle.robot_moves.specs.declared.module.Module.{Module}
 use Rattle.robot_moves.specs.Modules.{module_at, change_module}
-use Rattle.substrate.specs.Tables.{processing_number}
 use Rattle.floor_model.specs.declared.tracked.Substrate.{Substrate}
-use Rattle.floor_model.specs.Floor.{ToolFloor, with_module, substrate_numbered, change_numbered, number_of}
+use Rattle.floor_model.specs.Floor.{ToolFloor, with_module, substrate_numbered, change_numbered}
 use Rattle.floor_model.specs.Modules.{aligned}
-use Rattle.gem_tables.specs.Table.{is_one_of}
 use Rattle.floor_moves.specs.Floor.{Module as ByNumber, set}
 use Rattle.floor_moves.specs.Effects.{turned}
 use Rattle.floor_moves.specs.Agree.{Agree}
-use Rattle.place_laws.specs.Picture.{picture, module_of, of_one}
+use Rattle.place_laws.specs.Picture.{picture, module_of}
 use Rattle.picture_laws.proofs.JobViews.{alike_same, substrates_alike}
-use Rattle.picture_laws.proofs.Columns.{unknown_none, numbers_same, says_same, says_new}
+use Rattle.picture_laws.proofs.Columns.{numbers_same, says_same, says_new}
 use Rattle.picture_laws.proofs.Issuing.{changed_there, changed_else}
-
-abbrev IsOne : ℕ → Type 0
-IsOne k = k ≡ 1
 
 module _ (m : ℕ) (change : Module → Module) (x : Module) (state : ByNumber) (f : ToolFloor) where
   -- the modules by their numbers behind the change
@@ -39,7 +34,6 @@ module _ (m : ℕ) (change : Module → Module) (x : Module) (state : ByNumber) 
     slot_of = λ k _. refl;
     place_of = λ k. refl;
     processing = λ k _. refl;
-    unknown = λ k e one. let z : IsOne 0 = sym (ap (of_one 0 (λ (s : Substrate). processing_number s.states.processing)) (unknown_none k f.substrates e)) ∙ one in omega (arith, z);
     is_aligned = λ k _. refl;
     carriers = refl;
     present_at = λ c. refl;
@@ -63,7 +57,6 @@ module _ (m : ℕ) (change : Module → Module) (x : Module) (state : ByNumber) 
     slot_of = λ k _. says_same n aligned (λ s. refl) 0 _ (λ s. refl) k f.substrates;
     place_of = λ k. refl;
     processing = λ k _. says_same n aligned (λ s. refl) 0 _ (λ s. refl) k f.substrates;
-    unknown = λ k e one. unknown_is k e (sym (says_same n aligned (λ s. refl) 0 _ (λ s. refl) k f.substrates) ∙ one);
     is_aligned = λ k _. says_new n aligned (λ s. refl) false _ s k f.substrates found;
     carriers = refl;
     present_at = λ c. refl;
@@ -73,6 +66,4 @@ module _ (m : ℕ) (change : Module → Module) (x : Module) (state : ByNumber) 
     chambers = refl;
     equipment = modules_behind here is;
     next_command = refl;
-  } where
-    unknown_is : (k : ℕ) → is_one_of (map number_of f.substrates) k ≡ false → of_one 0 (λ (s : Substrate). processing_number s.states.processing) (substrate_numbered k f.substrates) ≡ 1 → ⊥
-    unknown_is k e one = let z : IsOne 0 = sym (ap (of_one 0 (λ (s : Substrate). processing_number s.states.processing)) (unknown_none k f.substrates e)) ∙ one in omega (arith, z)
+  }

@@ -1,6 +1,5 @@
 -- A carrier that is created, that comes to a port, and whose slot map becomes VERIFIED, does to the floor by numbers what the laws have.
-use Rattle.std.proofs.Common.{◌≡◌, ℕ, ◌==◌, Bool, true, false, if◌then◌else◌, List, map, Some, None, refl, sym, ◌∙◌, ap, arith}
-use Rattle.gem_tables.specs.Table.{is_one_of}
+use Rattle.std.proofs.Common.{◌≡◌, ℕ, ◌==◌, Bool, true, false, if◌then◌else◌, List, Some, None, refl, ◌∙◌, ap}
 use Rattle.load_port.specs.declared.port.Port.{Port}
 use Rattle.carrier.specs.declared.carrier.Carrier.{Carrier}
 use Rattle.carrier.specs.Tables.{access_number}
@@ -9,26 +8,16 @@ use Rattle.carrier.specs.Carriers as carriers
 use Rattle.carrier.specs.Carriers.{carrier_named, carrier_numbered, change_numbered, change_named, created as new_carrier, with_created, came_to}
 use Rattle.shop_floor.specs.Floor.{floor_of, number_of as carrier_number}
 use Rattle.shop_floor.specs.Valid.{IsFloor}
-use Rattle.substrate.specs.Tables.{processing_number}
-use Rattle.floor_model.specs.declared.tracked.Substrate.{Substrate}
-use Rattle.floor_model.specs.Floor.{ToolFloor, with_shop, substrate_numbered, number_of}
+use Rattle.floor_model.specs.Floor.{ToolFloor, with_shop}
 use Rattle.floor_moves.specs.Carriers.{created, arrived, verified}
 use Rattle.floor_moves.specs.Effects.{accessed}
 use Rattle.floor_moves.specs.Agree.{Agree}
 use Rattle.place_laws.specs.Picture.{picture, where_present, of_one}
 use Rattle.place_laws.proofs.Appended.{numbers_on, says_on}
 use Rattle.picture_laws.proofs.JobViews.{carriers_alike}
-use Rattle.picture_laws.proofs.Columns.{unknown_none}
 use Rattle.picture_laws.proofs.CarrierColumns.{none_next, numbers_kept, says_changed, says_kept, numbers_named, says_named, says_named_same}
 
-abbrev IsOne : ℕ → Type 0
-IsOne k = k ≡ 1
-
 module _ (f : ToolFloor) where
-  -- no number without a substrate is IN PROCESS
-  unknown_is : (k : ℕ) → is_one_of (map number_of f.substrates) k ≡ false → of_one 0 (λ (s : Substrate). processing_number s.states.processing) (substrate_numbered k f.substrates) ≡ 1 → ⊥
-  unknown_is k e one = let z : IsOne 0 = sym (ap (of_one 0 (λ (s : Substrate). processing_number s.states.processing)) (unknown_none k f.substrates e)) ∙ one in omega (arith, z)
-
   -- ---- created
 
   pub creating_agrees : (name : List ℕ) (ports : List Port) (next : ℕ) → IsFloor f.shop → Agree (created f.shop.next_carrier (picture f)) (picture (with_shop (floor_of ports (with_created f.shop.next_carrier name f.shop.carriers) next) f))
@@ -43,7 +32,6 @@ module _ (f : ToolFloor) where
         slot_of = λ k _. refl;
         place_of = λ k. refl;
         processing = λ k _. refl;
-        unknown = unknown_is;
         is_aligned = λ k _. refl;
         carriers = numbers_on carrier_number f.shop.carriers new;
         present_at = λ c. says_on carrier_number None where_present f.shop.carriers new _ refl none c;
@@ -77,7 +65,6 @@ module _ (f : ToolFloor) where
     slot_of = λ k _. refl;
     place_of = λ k. refl;
     processing = λ k _. refl;
-    unknown = unknown_is;
     is_aligned = λ k _. refl;
     carriers = numbers_named name (came_to port is_read slots) (λ c. refl) f.shop.carriers;
     present_at = λ c. says_named name (came_to port is_read slots) (λ x. refl) None where_present d c f.shop.carriers valid.apart named own;
@@ -103,7 +90,6 @@ module _ (f : ToolFloor) where
     slot_of = λ k _. refl;
     place_of = λ k. refl;
     processing = λ k _. refl;
-    unknown = unknown_is;
     is_aligned = λ k _. refl;
     carriers = numbers_kept n (carriers.fires_row 9 row) (λ x. refl) f.shop.carriers;
     present_at = λ k. says_kept n (carriers.fires_row 9 row) (λ x. refl) None where_present (λ x. refl) k f.shop.carriers;
@@ -129,7 +115,6 @@ module _ (f : ToolFloor) where
     slot_of = λ k _. refl;
     place_of = λ k. refl;
     processing = λ k _. refl;
-    unknown = unknown_is;
     is_aligned = λ k _. refl;
     carriers = numbers_kept n (carriers.fires_row 10 row) (λ x. refl) f.shop.carriers;
     present_at = λ k. says_kept n (carriers.fires_row 10 row) (λ x. refl) None where_present (λ x. refl) k f.shop.carriers;

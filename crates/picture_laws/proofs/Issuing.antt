@@ -1,24 +1,18 @@
 -- A command that is issued does to the floor by numbers what the laws have.
-use Rattle.std.proofs.Common.{◌≡◌, ℕ, zero, suc, ◌+◌, ◌==◌, Bool, true, false, if◌then◌else◌, List, [], ◌∷◌, Option, Some, option_map, slice_get, refl, sym, ◌∙◌, ap, subst, arith}
+use Rattle.std.proofs.Common.{◌≡◌, ℕ, zero, suc, ◌+◌, ◌==◌, Bool, true, false, if◌then◌else◌, List, [], ◌∷◌, Option, Some, option_map, slice_get, refl, sym, ◌∙◌, ap, subst}
 use Rattle.std.proofs.lemmas.Bool.Decides.{Decides-eqb}
 use Rattle.gem_tables.specs.Table.{update_at}
 use Rattle.robot_moves.specs.declared.module.Module.{Module}
 use Rattle.robot_moves.specs.declared.module.Module.TheVariants.{Idle}
 use Rattle.robot_moves.specs.declared.view.Move.{Move}
 use Rattle.robot_moves.specs.Modules.{module_at, change_module, given}
-use Rattle.substrate.specs.Tables.{processing_number}
-use Rattle.floor_model.specs.declared.tracked.Substrate.{Substrate}
 use Rattle.floor_model.specs.Floor.{ToolFloor}
 use Rattle.floor_model.specs.Modules.{command, issued as given_to}
 use Rattle.floor_moves.specs.Floor.{busy}
 use Rattle.floor_moves.specs.Effects.{issued}
 use Rattle.floor_moves.specs.Agree.{Agree}
-use Rattle.place_laws.specs.Picture.{picture, module_of, task_of, of_one}
+use Rattle.place_laws.specs.Picture.{picture, module_of, task_of}
 use Rattle.picture_laws.proofs.JobViews.{alike_same}
-use Rattle.picture_laws.proofs.Columns.{unknown_none}
-
-abbrev IsOne : ℕ → Type 0
-IsOne k = k ≡ 1
 
 module _ {A : Type 0} (change : A → A) where
   updated_there : (n : ℕ) (xs : List A) → slice_get (update_at n change xs) n ≡ option_map change (slice_get xs n)
@@ -53,7 +47,6 @@ module _ (m : ℕ) (move : Move) (f : ToolFloor) where
     slot_of = λ k _. refl;
     place_of = λ k. refl;
     processing = λ k _. refl;
-    unknown = λ k e one. let z : IsOne 0 = sym (ap (of_one 0 (λ (s : Substrate). processing_number s.states.processing)) (unknown_none k f.substrates e)) ∙ one in omega (arith, z);
     is_aligned = λ k _. refl;
     carriers = refl;
     present_at = λ c. refl;

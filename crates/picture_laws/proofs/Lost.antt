@@ -46,7 +46,6 @@ module _ (n : ℕ) (s : Substrate) (found : Registered) (f : ToolFloor) where
         slot_of = a.slot_of;
         place_of = λ k. taken_among s.sub 0 f.places.given f.places.held found places.named_apart places.numbered there k ∙ ap (λ (m : ℕ). if k == m then None else among f.places.held k) is;
         processing = λ k e. a.processing k e ∙ ap (λ (x : ℕ). if k == n then x else of_one 0 (λ (t : Substrate). processing_number t.states.processing) (substrate_numbered k f.substrates)) (is_lost s.states.processing);
-        unknown = a.unknown;
         is_aligned = a.is_aligned;
         carriers = refl;
         present_at = λ c. refl;

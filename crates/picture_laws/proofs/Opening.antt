@@ -31,7 +31,6 @@ module _ (ports chambers : ℕ) (recipes : List Recipe) where
     slot_of = λ n e. refl;
     place_of = λ n. refl;
     processing = λ n e. refl;
-    unknown = λ n e one. absurd (cc);
     is_aligned = λ n e. refl;
     carriers = refl;
     present_at = λ c. refl;

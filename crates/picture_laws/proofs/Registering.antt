@@ -1,12 +1,11 @@
 -- A registration does to the floor by numbers what the laws have.
-use Rattle.std.proofs.Common.{◌≡◌, ℕ, ◌+◌, ◌==◌, Bool, true, false, if◌then◌else◌, List, [], ◌∷◌, ◌++◌, find, map, Option, Some, None, option_map, refl, sym, ◌∙◌, ap, subst, arith}
+use Rattle.std.proofs.Common.{◌≡◌, ℕ, ◌+◌, ◌==◌, Bool, true, false, if◌then◌else◌, List, [], ◌∷◌, ◌++◌, find, map, Option, Some, None, option_map, refl, sym, ◌∙◌, ap, subst}
 use Rattle.std.proofs.lemmas.Bool.Decides.{Decides-eqb}
 use Rattle.gem_tables.specs.Table.{is_one_of}
 use Rattle.gem_ids.specs.declared.numbers.LocId.TheVariants.{Slot}
 use Rattle.gem_ids.specs.declared.numbers.PortNo.{PortNo}
 use Rattle.gem_ids.specs.declared.numbers.SlotNo.{SlotNo}
 use Rattle.robot_moves.specs.Modules.{module_at}
-use Rattle.substrate.specs.Tables.{processing_number}
 use Rattle.substrate.specs.Places.{registered as registered_there}
 use Rattle.substrate.specs.declared.registered.Registered.{Registered}
 use Rattle.floor_model.specs.declared.tracked.Substrate.{Substrate}
@@ -20,10 +19,7 @@ use Rattle.process_job.specs.declared.job.ProcessJob.{ProcessJob}
 use Rattle.floor_model.specs.Jobs.{is_processing, is_stopping, is_aborting}
 use Rattle.place_laws.specs.Picture.{picture, loc_of, place_in, module_of, of_one, of_job, is_complete, chambers_in}
 use Rattle.picture_laws.proofs.Columns.{unknown_none}
-use Rattle.place_laws.proofs.Appended.{numbers_on, says_on, none_of_front}
-
-abbrev IsOne : ℕ → Type 0
-IsOne k = k ≡ 1
+use Rattle.place_laws.proofs.Appended.{numbers_on, says_on}
 
 -- a place, where one is given
 of_place : (o : Option Registered) → option_map (λ (r : Registered). loc_of r.at) o ≡ of_one None (λ (r : Registered). Some (loc_of r.at)) o
@@ -58,7 +54,6 @@ module _ (sub : List ℕ) (carrier : ℕ) (port : PortNo) (slot : SlotNo) (f : T
     slot_of = λ k _. says_on number_of 0 _ f.substrates new _ refl none k;
     place_of = λ k. place k;
     processing = λ k _. says_on number_of 0 _ f.substrates new _ refl none k;
-    unknown = λ k e one. unknown_is k (unknown_none k f.substrates (none_of_front (map number_of f.substrates) (f.places.given + 1) k e)) (sym (says_on number_of 0 _ f.substrates new _ refl none k) ∙ one);
     is_aligned = λ k _. says_on number_of false _ f.substrates new _ refl none k;
     carriers = refl;
     present_at = λ c. refl;
@@ -92,14 +87,3 @@ module _ (sub : List ℕ) (carrier : ℕ) (port : PortNo) (slot : SlotNo) (f : T
         of_place (find (λ (r : Registered). r.number == k) (f.places.held ++ new_place ∷ []))
         ∙ says_on (λ (r : Registered). r.number) None (λ (r : Registered). Some (loc_of r.at)) f.places.held new_place _ refl unplaced k
         ∙ ap (λ (o : Option Loc). if k == f.places.given + 1 then Some (loc_of (Slot port slot)) else o) (sym (of_place (find (λ (r : Registered). r.number == k) f.places.held)))
-
-    unknown_is : (k : ℕ) → substrate_numbered k f.substrates ≡ None → (if k == f.places.given + 1 then 0 else of_one 0 (λ (s : Substrate). processing_number s.states.processing) (substrate_numbered k f.substrates)) ≡ 1 → ⊥
-    unknown_is k gone one = by (k == f.places.given + 1) refl where
-      by : (b : Bool) → (k == f.places.given + 1) ≡ b → ⊥
-      by true e =
-          let z : IsOne 0 = sym (ap (λ (b : Bool). if b then 0 else of_one 0 (λ (s : Substrate). processing_number s.states.processing) (substrate_numbered k f.substrates)) e) ∙ one in
-          omega (arith, z)
-      by false e =
-          let else_ = ap (λ (b : Bool). if b then 0 else of_one 0 (λ (s : Substrate). processing_number s.states.processing) (substrate_numbered k f.substrates)) e in
-          let z : IsOne 0 = sym (else_ ∙ ap (of_one 0 (λ (s : Substrate). processing_number s.states.processing)) gone) ∙ one in
-          omega (arith, z)

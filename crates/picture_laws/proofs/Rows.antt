@@ -1,32 +1,25 @@
 -- Rows of one substrate or one location keep what holds.
-use Rattle.std.proofs.Common.{◌≡◌, ℕ, ◌==◌, Bool, true, false, if◌then◌else◌, map, Some, None, refl, sym, ◌∙◌, ap, subst, arith}
-use Rattle.std.proofs.lemmas.Bool.Decides.{Decides-eqb}
-use Rattle.gem_tables.specs.Table.{after, is_one_of}
+use Rattle.std.proofs.Common.{◌≡◌, ℕ, false, Some, refl}
+use Rattle.gem_tables.specs.Table.{after}
 use Rattle.substrate.specs.Tables.{processing_number, processing_table}
 use Rattle.floor_model.specs.declared.tracked.Substrate.{Substrate}
-use Rattle.floor_model.specs.Floor.{ToolFloor, substrate_numbered, number_of}
+use Rattle.floor_model.specs.Floor.{ToolFloor, substrate_numbered}
 use Rattle.floor_model.specs.Machines.{substrate_moves, with_moved}
 use Rattle.floor_moves.specs.Effects.{worked}
 use Rattle.floor_moves.specs.Agree.{Agree}
 use Rattle.floor_moves.specs.Valid.{Valid}
 use Rattle.floor_moves.proofs.Agreeing.{agree-keeps}
-use Rattle.place_laws.specs.Picture.{picture, of_one}
+use Rattle.place_laws.specs.Picture.{picture}
 use Rattle.picture_laws.proofs.JobViews.{substrates_alike}
-use Rattle.picture_laws.proofs.Columns.{unknown_none, numbers_same, says_same, says_new}
+use Rattle.picture_laws.proofs.Columns.{numbers_same, says_same, says_new}
 
 -- the number of the state of processing behind a row
 abbrev state_behind : ℕ → Substrate → ℕ
 state_behind row s = processing_number (after processing_number processing_table row s.states.processing)
 
-abbrev IsOne : ℕ → Type 0
-IsOne k = k ≡ 1
-
-some_none : (s : Substrate) → Some s ≡ None → ⊥
-some_none s e = cc
-
 module _ (f : ToolFloor) (n row : ℕ) where
   -- table 12: nothing that holds looks at transport
-  transport_agrees : Agree (picture f) (picture (with_moved 12 row n f))
+  pub transport_agrees : Agree (picture f) (picture (with_moved 12 row n f))
   transport_agrees = record {
     substrates = numbers_same n (substrate_moves 12 row) (λ s. refl) f.substrates;
     next_substrate = refl;
@@ -35,7 +28,6 @@ module _ (f : ToolFloor) (n row : ℕ) where
     slot_of = λ k _. says_same n (substrate_moves 12 row) (λ s. refl) 0 _ (λ s. refl) k f.substrates;
     place_of = λ k. refl;
     processing = λ k _. says_same n (substrate_moves 12 row) (λ s. refl) 0 _ (λ s. refl) k f.substrates;
-    unknown = λ k e one. unknown_is k e (sym (says_same n (substrate_moves 12 row) (λ s. refl) 0 _ (λ s. refl) k f.substrates) ∙ one);
     is_aligned = λ k _. says_same n (substrate_moves 12 row) (λ s. refl) false _ (λ s. refl) k f.substrates;
     carriers = refl;
     present_at = λ c. refl;
@@ -45,9 +37,7 @@ module _ (f : ToolFloor) (n row : ℕ) where
     chambers = refl;
     equipment = λ m. refl;
     next_command = refl;
-  } where
-    unknown_is : (k : ℕ) → is_one_of (map number_of f.substrates) k ≡ false → of_one 0 (λ (s : Substrate). processing_number s.states.processing) (substrate_numbered k f.substrates) ≡ 1 → ⊥
-    unknown_is k e one = let z : IsOne 0 = sym (ap (of_one 0 (λ (s : Substrate). processing_number s.states.processing)) (unknown_none k f.substrates e)) ∙ one in omega (arith, z)
+  }
 
   pub transport-keeps : Valid (picture f) → Valid (picture (with_moved 12 row n f))
   transport-keeps v = agree-keeps _ _ transport_agrees v
@@ -62,7 +52,6 @@ module _ (f : ToolFloor) (n row : ℕ) where
     slot_of = λ k _. says_same n (substrate_moves 13 row) (λ s. refl) 0 _ (λ s. refl) k f.substrates;
     place_of = λ k. refl;
     processing = λ k _. says_new n (substrate_moves 13 row) (λ s. refl) 0 _ s k f.substrates found;
-    unknown = λ k e one. unknown_is k (unknown_none k f.substrates e) (sym (says_new n (substrate_moves 13 row) (λ s. refl) 0 _ s k f.substrates found) ∙ one);
     is_aligned = λ k _. says_same n (substrate_moves 13 row) (λ s. refl) false _ (λ s. refl) k f.substrates;
     carriers = refl;
     present_at = λ c. refl;
@@ -72,14 +61,4 @@ module _ (f : ToolFloor) (n row : ℕ) where
     chambers = refl;
     equipment = λ m. refl;
     next_command = refl;
-  } where
-    unknown_is : (k : ℕ) → substrate_numbered k f.substrates ≡ None → (if k == n then state_behind row s else of_one 0 (λ (s : Substrate). processing_number s.states.processing) (substrate_numbered k f.substrates)) ≡ 1 → ⊥
-    unknown_is k none one = by (k == n) refl where
-      by : (b : Bool) → (k == n) ≡ b → ⊥
-      by true e =
-          let gone : substrate_numbered n f.substrates ≡ None = subst (λ (m : ℕ). substrate_numbered m f.substrates ≡ None) ((Decides-eqb k n).0 e) none in
-          some_none s (sym found ∙ gone)
-      by false e =
-          let else_ = ap (λ (b : Bool). if b then state_behind row s else of_one 0 (λ (s : Substrate). processing_number s.states.processing) (substrate_numbered k f.substrates)) e in
-          let z : IsOne 0 = sym (else_ ∙ ap (of_one 0 (λ (s : Substrate). processing_number s.states.processing)) none) ∙ one in
-          omega (arith, z)
+  }

@@ -50,11 +50,3 @@ module _ {A : Type 0} (number : A → ℕ) where
       miss : (c : Bool) → (number y == k) ≡ c → (number y == k) ≡ false
       miss true f = let same : k ≡ n = sym ((Decides-eqb (number y) k).0 f) ∙ is in let t = (Decides-eqb k n).1 same in absurd (cc)
       miss false f = f
-
--- a number that is none of a list with one more is none of the list, and not the last
-pub none_of_front : (ns : List ℕ) (n k : ℕ) → is_one_of (ns ++ n ∷ []) k ≡ false → is_one_of ns k ≡ false
-none_of_front [] n k e = refl
-none_of_front (m ∷ ns) n k e = of (m == k) e (none_of_front ns n k) where
-  of : (b : Bool) → (b || is_one_of (ns ++ n ∷ []) k) ≡ false → (is_one_of (ns ++ n ∷ []) k ≡ false → is_one_of ns k ≡ false) → (b || is_one_of ns k) ≡ false
-  of true e rest = e
-  of false e rest = rest e

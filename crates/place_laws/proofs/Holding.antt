@@ -17,9 +17,6 @@ use Rattle.floor_moves.specs.Valid.{IsDistinct}
 use Rattle.place_laws.specs.Picture.{picture, loc_of, port_in, slot_in, port_number, where_present, of_one}
 use Rattle.place_laws.specs.Standing.{IsOf, IsCarried, AreApart}
 
-abbrev pub IsOne : ℕ → Type 0
-IsOne k = k ≡ 1
-
 -- ---- one that is found
 
 module _ {A : Type 0} (number : A → ℕ) (n : ℕ) where

@@ -4,7 +4,7 @@ use Rattle.std.proofs.lemmas.Bool.{true≢false, and_parts}
 use Rattle.gem_tables.specs.Table.{firing, is_one_of}
 use Rattle.gem_tables.specs.declared.firing.Firing.{Firing}
 use Rattle.gem_tables.proofs.Rows.{looked_for}
-use Rattle.gem_tables.proofs.Machines.{starts_cases}
+use Rattle.shop_floor.proofs.EachTable.{starts_cases}
 use Rattle.load_port.specs.declared.record.Transfer.{Transfer}
 use Rattle.load_port.specs.declared.record.Access.{Access}
 use Rattle.load_port.specs.declared.record.Reservation.{Reservation}
@@ -16,7 +16,7 @@ use Rattle.carrier.specs.Carriers as carriers
 use Rattle.carrier.specs.Carriers.{change_numbered}
 use Rattle.shop_floor.specs.Floor.{Floor, with_port, with_carrier}
 use Rattle.shop_floor.specs.Rows.{is_own, found_does}
-use Rattle.shop_floor.specs.Machines.{floor_machines, floor_starts, floor_fired}
+use Rattle.shop_floor.specs.Machines.{floor_starts, floor_fired}
 use Rattle.shop_floor.specs.Valid.{IsFloor}
 use Rattle.shop_floor.proofs.Cases.{starts_at_port}
 use Rattle.shop_floor.proofs.Keeps.{own_some}
@@ -117,23 +117,12 @@ states_left table row = record { number = λ c. refl; name = λ c. refl; port = 
 
 pub row-at-ports : (x : Firing) (f : Floor) → floor_starts x f ≡ true → IsFloor f → is_plain_row x ≡ true → AtPorts f → AtPorts (floor_fired x f)
 row-at-ports x f starts valid plain kept =
-    starts_cases (λ (y : Firing). is_plain_row y ≡ true → AtPorts (floor_fired y f)) f x floor_machines (
-      (λ s plain. transfer-at-ports f x.object x.row.row kept s plain),
-      (
-        (λ s plain. access-at-ports f x.object x.row.row kept),
-        (
-          (λ s plain. reservation-at-ports f x.object x.row.row kept),
-          (
-            (λ s plain. association-at-ports f x.object x.row.row valid kept s),
-            (
-              (λ s plain. carrier-at-ports x.object (carriers.fires_row 8 x.row.row) f (states_left 8 x.row.row) kept),
-              (
-                (λ s plain. carrier-at-ports x.object (carriers.fires_row 9 x.row.row) f (states_left 9 x.row.row) kept),
-                ((λ s plain. carrier-at-ports x.object (carriers.fires_row 10 x.row.row) f (states_left 10 x.row.row) kept), tt),
-              ),
-            ),
-          ),
-        ),
-      ),
-    )
-    starts plain
+    starts_cases (λ (y : Firing). is_plain_row y ≡ true → AtPorts (floor_fired y f)) f x (record {
+      transfer = λ s plain. transfer-at-ports f x.object x.row.row kept s plain;
+      access = λ s plain. access-at-ports f x.object x.row.row kept;
+      reservation = λ s plain. reservation-at-ports f x.object x.row.row kept;
+      association = λ s plain. association-at-ports f x.object x.row.row valid kept s;
+      id = λ s plain. carrier-at-ports x.object (carriers.fires_row 8 x.row.row) f (states_left 8 x.row.row) kept;
+      map = λ s plain. carrier-at-ports x.object (carriers.fires_row 9 x.row.row) f (states_left 9 x.row.row) kept;
+      accessing = λ s plain. carrier-at-ports x.object (carriers.fires_row 10 x.row.row) f (states_left 10 x.row.row) kept;
+    }) starts plain

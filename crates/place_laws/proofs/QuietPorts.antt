@@ -1,7 +1,6 @@
 -- Where no row is ready by itself, nothing is awaited at a port, and its carrier is present at no other.
 use Rattle.std.proofs.Common.{◌≡◌, ℕ, zero, suc, ◌+◌, Bool, true, false, cond, not, ◌&&◌, List, [], ◌∷◌, Option, Some, None, is_some, option_map, slice_get, refl, sym, ap, subst, arith, ◌∙◌}
 use Rattle.std.specs.List.{AllByRecursion}
-use Rattle.std.specs.Option.{option_or}
 use Rattle.gem_tables.specs.Table.{Row, is_itself, is_among, first_itself, firing}
 use Rattle.gem_tables.specs.Machine.{first_ready}
 use Rattle.load_port.specs.declared.port.Port.{Port}
@@ -12,27 +11,19 @@ use Rattle.load_port.specs.Record.{is_associated}
 use Rattle.load_port.specs.Tables.{association_number, association_table}
 use Rattle.shop_floor.specs.Floor.{Floor, numbers_from}
 use Rattle.shop_floor.specs.Rows.{port_wants, is_own, is_elsewhere}
-use Rattle.shop_floor.specs.Machines.{port_ready, floor_least, transfer_machine, access_machine, reservation_machine, association_machine}
+use Rattle.shop_floor.specs.Machines.{port_ready, floor_least, association_machine}
 use Rattle.shop_floor.specs.Valid.{IsTold, IsFloor}
+use Rattle.shop_floor.proofs.AtRest.{neither, mapped_none, rests}
 use Rattle.shop_floor.proofs.Belonging.{all_at}
 
 -- ---- nothing is ready
-
--- neither of two choices gives anything
-pub neither : {A : Type 0} (first second : Option A) → option_or first second ≡ None → (first ≡ None) × (second ≡ None)
-neither None second e = (refl, e)
-neither (Some x) second e = absurd (cc)
 
 -- none is ready at any of the objects
 none_first : (table : ℕ) (ready : ℕ → Option ℕ) (objects : List ℕ) → first_ready table ready objects ≡ None → AllByRecursion (λ n. ready n ≡ None) objects
 none_first table ready [] e = tt
 none_first table ready (n ∷ ns) e =
     let parts = neither (option_map (firing table n) (ready n)) (first_ready table ready ns) e in
-    (of (ready n) parts.0, none_first table ready ns parts.1)
-  where
-    of : (o : Option ℕ) → option_map (firing table n) o ≡ None → o ≡ None
-    of None q = refl
-    of (Some row) q = absurd (cc)
+    (mapped_none (firing table n) (ready n) parts.0, none_first table ready ns parts.1)
 
 -- so it is at the port of each number
 at_number : (P : ℕ → Type 0) (first place n : ℕ) (ports : List Port) (p : Port) → n ≡ first + place → AllByRecursion P (numbers_from first ports) → slice_get ports place ≡ Some p → P n
@@ -76,16 +67,13 @@ quiet_by f place p NotAssociated is told none =
     record { none = rows.1.1.0; not_elsewhere = none_elsewhere p.carrier free (suc place) f }
 quiet_by f place p Associated is told none =
     let rows = no_row association_number (λ want. port_wants want (suc place) p f.carriers) association_table Associated none in
-    record { none = none_came p.carrier p.arrival rows.1.1.1.0 rows.1.1.1.1.0; not_elsewhere = rows.1.1.1.1.1.1.0 }
+    let from_4 = rows.1.1.1 in
+    record { none = none_came p.carrier p.arrival from_4.0 from_4.1.0; not_elsewhere = from_4.1.1.1.0 }
 
 -- where no row is ready by itself
 pub quiet_port : (f : Floor) (place : ℕ) (p : Port) → slice_get f.ports place ≡ Some p → floor_least f ≡ None → IsFloor f → IsQuiet f place p
 quiet_port f place p s least valid =
-    let behind_transfer = (neither (first_ready 4 (λ object. transfer_machine.ready object f) (transfer_machine.objects f)) _ least).1 in
-    let behind_access = (neither (first_ready 5 (λ object. access_machine.ready object f) (access_machine.objects f)) _ behind_transfer).1 in
-    let behind_reservation = (neither (first_ready 6 (λ object. reservation_machine.ready object f) (reservation_machine.objects f)) _ behind_access).1 in
-    let none = (neither (first_ready 7 (λ object. association_machine.ready object f) (association_machine.objects f)) _ behind_reservation).0 in
-    let each = none_first 7 (λ object. association_machine.ready object f) (association_machine.objects f) none in
+    let each = none_first 7 (λ object. association_machine.ready object f) (association_machine.objects f) (rests f least).association in
     let here : association_machine.ready (suc place) f ≡ None = at_number (λ n. association_machine.ready n f ≡ None) 1 place (suc place) f.ports p (omega arith) each s in
     quiet_by f place p p.states.association refl (all_at IsTold place f.ports p s valid.told)
     (subst (λ (o : Option Port). port_ready association_number association_table (λ r. r.association) (λ to r. record r { association = to }) (suc place) f o ≡ None) s here)

@@ -4,7 +4,7 @@ use Rattle.std.specs.List.{AllByRecursion}
 use Rattle.std.proofs.lemmas.Bool.{true≢false, both_ways, and_parts}
 use Rattle.gem_tables.specs.Table.{firing}
 use Rattle.gem_tables.specs.declared.firing.Firing.{Firing}
-use Rattle.gem_tables.proofs.Machines.{starts_cases}
+use Rattle.shop_floor.proofs.EachTable.{starts_cases}
 use Rattle.load_port.specs.declared.port.Port.{Port}
 use Rattle.load_port.specs.declared.port.Arrival.{Arrival}
 use Rattle.load_port.specs.declared.record.Transfer.{Transfer}
@@ -19,7 +19,7 @@ use Rattle.carrier.specs.Carriers as carriers
 use Rattle.carrier.specs.Carriers.{carrier_numbered, change_named, found_or_created, came_to, binds, marks}
 use Rattle.shop_floor.specs.Floor.{Floor, with_port, with_carrier, with_marked}
 use Rattle.shop_floor.specs.Rows.{freed, owned_by, taken_by, owner, forgets, is_directed, bound_to, binding, forgetting, without_owner, arrival_at, arrived, arriving, is_own, found_does}
-use Rattle.shop_floor.specs.Machines.{floor_machines, floor_starts, floor_fired}
+use Rattle.shop_floor.specs.Machines.{floor_starts, floor_fired}
 use Rattle.shop_floor.specs.Valid.{IsFloor}
 use Rattle.shop_floor.proofs.Apart.{all_changed, all_found}
 use Rattle.shop_floor.proofs.Belonging.{get_updated}
@@ -186,20 +186,12 @@ accessing-unloading f carrier row u = states-unloading 10 carrier row f (access_
 
 pub row-unloading : (x : Firing) (f : Floor) → floor_starts x f ≡ true → IsFloor f → AtPorts f → Unloading f → Unloading (floor_fired x f)
 row-unloading x f starts valid at u =
-    starts_cases (λ (y : Firing). Unloading (floor_fired y f)) f x floor_machines (
-      (λ s. transfer-unloading f x.object x.row.row s valid u),
-      (
-        (λ s. mode-unloading f x.object x.row.row u),
-        (
-          (λ s. reservation-unloading f x.object x.row.row u),
-          (
-            (λ s. association-unloading f x.object x.row.row s at u),
-            (
-              (λ s. id-unloading f x.object x.row.row u),
-              ((λ s. map-unloading f x.object x.row.row s u), ((λ s. accessing-unloading f x.object x.row.row u), tt)),
-            ),
-          ),
-        ),
-      ),
-    )
-    starts
+    starts_cases (λ (y : Firing). Unloading (floor_fired y f)) f x (record {
+      transfer = λ s. transfer-unloading f x.object x.row.row s valid u;
+      access = λ s. mode-unloading f x.object x.row.row u;
+      reservation = λ s. reservation-unloading f x.object x.row.row u;
+      association = λ s. association-unloading f x.object x.row.row s at u;
+      id = λ s. id-unloading f x.object x.row.row u;
+      map = λ s. map-unloading f x.object x.row.row s u;
+      accessing = λ s. accessing-unloading f x.object x.row.row u;
+    }) starts

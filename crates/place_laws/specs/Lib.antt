@@ -2,3 +2,4 @@ pub mod Picture
 pub mod Ports
 pub mod Standing
 pub mod Sound
+pub mod Processed

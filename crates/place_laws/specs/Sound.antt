@@ -2,7 +2,7 @@
 -- moves and process jobs): each substrate that is kept is of a carrier that is present; what has a place is kept; a process job names the
 -- carriers of its members; a carrier at a port that is READY TO UNLOAD has finished; and by numbers the floor is as the laws of the moves
 -- have it.
-use Rattle.std.specs.Prelude.{◌≡◌, ◌≤◌, ℕ, ◌+◌, Bool, true, false, List, length, Some}
+use Rattle.std.specs.Prelude.{◌≡◌, ◌≤◌, ◌+◌, Bool, true, false, List, length, Some}
 use Rattle.std.specs.List.{AllByRecursion}
 use Rattle.carrier.specs.declared.carrier.Carrier.{Carrier}
 use Rattle.carrier.specs.Carriers.{carrier_numbered}
@@ -18,7 +18,7 @@ use Rattle.floor_model.specs.declared.tracked.Substrate.{Substrate}
 use Rattle.floor_model.specs.Floor.{ToolFloor, substrate_numbered}
 use Rattle.floor_model.specs.Floor.{RiseTo}
 use Rattle.floor_model.specs.Jobs.{job_of, names_carrier}
-use Rattle.floor_moves.specs.Valid.{Valid, ValidBut}
+use Rattle.floor_moves.specs.Valid.{Valid}
 use Rattle.place_laws.specs.Picture.{picture}
 use Rattle.place_laws.specs.Ports.{AtPorts, Unloading}
 use Rattle.place_laws.specs.Standing.{IsCarried, AreApart, AreRegistered}
@@ -68,17 +68,9 @@ pub record Base (f : ToolFloor) : Type 0 where
   pub held : AllByRecursion (IsOfKept f.substrates) f.places.held
   pub jobs : JobsSound f
 
--- what holds at every moment, but between two direct rows of one input
+-- what holds at every moment
 pub record Sound (f : ToolFloor) : Type 0 where
   pub base : Base f
   pub ports : AtPorts f.shop
   pub unloading : Unloading f.shop
   pub valid : Valid (picture f)
-
--- what holds between row 7, 8 or 9 of table 16, which closes a Process, and the row of table 13 of the substrate of this number, which
--- follows it
-pub record SoundBut (n : ℕ) (f : ToolFloor) : Type 0 where
-  pub base : Base f
-  pub ports : AtPorts f.shop
-  pub unloading : Unloading f.shop
-  pub valid : ValidBut n (picture f)

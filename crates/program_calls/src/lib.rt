@@ -43,17 +43,9 @@ fn answer<R: Print>(rt: &R, alloc: Global, question: Question) -> Result<Cause, 
     }
 }
 
-// Where the name of the configuration stands among the arguments, of which the first is the program's own name.
-fn config_place(words: &[Text80]) -> usize {
-    match command_of(words) {
-        Ok(Words::Batch(_, _, _)) => 4,
-        _ => 2,
-    }
-}
-
-// The name of the configuration's file, as it was given.
-fn config_path<'a>(args: &'a [String], words: &[Text80]) -> &'a str {
-    match args.get(config_place(words)) {
+// The name of the configuration's file, as it was given: the last argument of each command.
+fn config_path(args: &[String]) -> &str {
+    match args.last() {
         Some(path) => path.as_str(),
         None => "",
     }
@@ -144,7 +136,7 @@ where
     if let Some(question) = asked(&words) {
         return answer(rt, alloc, question);
     }
-    let path = config_path(args, &words);
+    let path = config_path(args);
     if is_serve(&words) {
         run_serve(rt, alloc, path, &words)
     } else {

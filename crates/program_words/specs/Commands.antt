@@ -1,6 +1,6 @@
 -- The commands of the program (this tool's profile, the program's words).
 use Rattle.std.specs.Prelude.{◌≡◌, ℕ, ◌+◌, max, Bool, not, ◌&&◌, is_some, nat_eq, if◌then◌else◌, List, [], ◌∷◌, codes, IsTrue, Option, Some, None}
-use Rattle.std.specs.List.{starts_with}
+use Rattle.std.specs.List.{fold, starts_with}
 use Rattle.std.specs.Str.{bytes_eq}
 use Rattle.program_words.specs.declared.words.Words.{Words}
 use Rattle.program_words.specs.declared.words.Words.TheVariants as command
@@ -27,10 +27,14 @@ SpellsBehindSeed seed words (command.Serve config) = ⊥
 SpellsBehindSeed seed words (command.Batch s carriers config) =
     (s ≡ seed) × ((c : List ℕ) × (words ≡ c ∷ (config ∷ [])) × (number_in 1 most_carriers c ≡ Some carriers) × IsTrue (is_file_word config))
 
+-- the words are this name, and behind it one that can name a file
+abbrev pub SpellsWith : List ℕ → List (List ℕ) → List ℕ → Type 0
+SpellsWith name words word = (words ≡ name ∷ (word ∷ [])) × IsTrue (is_file_word word)
+
 -- the words spell the command: `feed CONFIG`, `serve CONFIG`, or `batch SEED CARRIERS CONFIG`
 abbrev pub Spells : List (List ℕ) → Words → Type 0
-Spells words (command.Feed config) = (words ≡ codes "feed" ∷ (config ∷ [])) × IsTrue (is_file_word config)
-Spells words (command.Serve config) = (words ≡ codes "serve" ∷ (config ∷ [])) × IsTrue (is_file_word config)
+Spells words (command.Feed config) = SpellsWith (codes "feed") words config
+Spells words (command.Serve config) = SpellsWith (codes "serve") words config
 Spells words (command.Batch seed carriers config) =
     (s : List ℕ) × (c : List ℕ) × (words ≡ codes "batch" ∷ (s ∷ (c ∷ (config ∷ [])))) × (number_in 0 most_seed s ≡ Some seed)
     × (number_in 1 most_carriers c ≡ Some carriers) × IsTrue (is_file_word config)
@@ -39,13 +43,17 @@ Spells words (command.Batch seed carriers config) =
 abbrev pub Places : Type 0
 Places = List (List ℕ → Bool)
 
+-- a name, and behind it a word that can name a file
+abbrev pub file_places : List ℕ → Places
+file_places name = (λ word. bytes_eq word name) ∷ (is_file_word ∷ [])
+
 -- `feed CONFIG`
 abbrev pub feed_places : Places
-feed_places = (λ word. bytes_eq word (codes "feed")) ∷ (is_file_word ∷ [])
+feed_places = file_places (codes "feed")
 
 -- `serve CONFIG`
 abbrev pub serve_places : Places
-serve_places = (λ word. bytes_eq word (codes "serve")) ∷ (is_file_word ∷ [])
+serve_places = file_places (codes "serve")
 
 -- a number of at least and at most so much
 abbrev pub takes_number : ℕ → ℕ → List ℕ → Bool
@@ -63,6 +71,10 @@ places_behind_batch = takes_number 0 most_seed ∷ places_behind_seed
 abbrev pub batch_places : Places
 batch_places = (λ word. bytes_eq word (codes "batch")) ∷ places_behind_batch
 
+-- the commands of the program
+abbrev pub commands : List Places
+commands = feed_places ∷ (serve_places ∷ (batch_places ∷ []))
+
 -- the first place, counted on from this one, whose word a command doesn't take: it isn't taken there, is one too many, or is missing
 abbrev pub misfit_of : ℕ → Places → List (List ℕ) → Option ℕ
 misfit_of place [] [] = None
@@ -76,10 +88,14 @@ later None q = None
 later (Some p) None = None
 later (Some p) (Some q) = Some (max p q)
 
--- The first word, counted from 0, that fits no command, where the words spell none: some command takes the words before it, and
--- none goes on with it. A word that is missing counts as the one that doesn't fit.
+-- The first word, counted from 0, that fits none of these commands, where the words spell none: some command takes the words before it,
+-- and none goes on with it. A word that is missing counts as the one that doesn't fit.
+abbrev pub misfit_among : List Places → List (List ℕ) → Option ℕ
+misfit_among all words = fold (λ place command. later place (misfit_of 0 command words)) (Some 0) all
+
+-- the first word that fits no command of the program, where the words spell none
 abbrev pub misfit : List (List ℕ) → Option ℕ
-misfit words = later (later (misfit_of 0 feed_places words) (misfit_of 0 batch_places words)) (misfit_of 0 serve_places words)
+misfit words = misfit_among commands words
 
 -- the place that a fault tells
 abbrev pub place_of : WordsFault → ℕ

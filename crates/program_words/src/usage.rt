@@ -2,7 +2,8 @@
 ghost use Rattle.std.specs.Prelude.{◌≡◌};
 ghost use Rattle.program_words.specs.Questions.{question_asked, question_of};
 
-use clap::{Arg, ArgAction, Command};
+use crate::told::{Program, told_text};
+use crate::words::COMMANDS;
 use gem_ids::Text80;
 use std::alloc::{AllocError, Global};
 
@@ -58,81 +59,20 @@ Standard error tells why the program ends. Its status is:
 
 docs/profile has all of it: words.md, configuration.md, lines.md, serve.md, batch.md.";
 
-// What each command does.
-const FEED: &str = "Reads lines from standard input and prints lines: feed CONFIG";
-
-const SERVE: &str = "Listens on 127.0.0.1 and reads a script from standard input: serve CONFIG";
-
-const BATCH: &str =
-    "Processes carriers, reads no input and prints a summary: batch SEED CARRIERS CONFIG";
-
-// A command of this name, with what it does.
-fn command<'a>(alloc: Global, name: &'a str, about: &'a str) -> Command<'a> {
-    Command::new(alloc, name).about(about)
-}
-
-// An option of this name, which has no value, with what it does.
-fn option<'a>(alloc: Global, name: &'a str, about: &'a str) -> Arg<'a> {
-    Arg::new(alloc, name)
-        .long(name)
-        .action(ArgAction::SetTrue)
-        .help(about)
-}
-
-// The program, with what stands around its commands and options in its usage text.
-fn described<'a>(alloc: Global) -> Command<'a> {
-    Command::new(alloc, "gem300_tool")
-        .version("1.0.00")
-        .about("A GEM300 equipment controller, after SEMI E5, E30, E37, E87, E90, E40 and E94")
-        .override_usage(
-            "gem300_tool feed CONFIG\n       gem300_tool serve CONFIG\n       gem300_tool batch SEED CARRIERS CONFIG\n       gem300_tool --help | --version",
-        )
-        .after_help(MORE)
-}
-
-// The same, with no option and no command that it does not name itself.
-fn bare<'a>(alloc: Global) -> Command<'a> {
-    described(alloc)
-        .disable_help_flag(true)
-        .disable_version_flag(true)
-        .disable_help_subcommand(true)
-}
-
 // The program with its commands.
-fn commanded<'a>(alloc: Global) -> Result<Command<'a>, AllocError> {
-    bare(alloc)
-        .subcommand(command(alloc, "feed", FEED))?
-        .subcommand(command(alloc, "serve", SERVE))?
-        .subcommand(command(alloc, "batch", BATCH))
-}
-
-// The program with its commands and options.
-fn program<'a>(alloc: Global) -> Result<Command<'a>, AllocError> {
-    commanded(alloc)?
-        .arg(option(alloc, "help", "Prints this text"))?
-        .arg(option(alloc, "version", "Prints the name and the version"))
-}
-
-// What the program tells where this is asked.
-fn told(program: &mut Command<'_>, question: Question) -> Result<String, AllocError> {
-    match question {
-        Question::Help => program.render_help(),
-        Question::Version => program.render_version(),
-    }
-}
-
-// The text that is asked for.
-fn text_of(alloc: Global, question: Question) -> Result<String, AllocError> {
-    let mut program = program(alloc)?;
-    told(&mut program, question)
-}
+const TOOL: Program = Program {
+    name: "gem300_tool",
+    about: "A GEM300 equipment controller, after SEMI E5, E30, E37, E87, E90, E40 and E94",
+    commands: COMMANDS,
+    more: MORE,
+};
 
 /// The text of `--help`: the commands, what each reads and writes, the statuses, and where the documentation is.
 pub fn help_text(alloc: Global) -> Result<String, AllocError> {
-    text_of(alloc, Question::Help)
+    told_text(alloc, &TOOL, Question::Help)
 }
 
 /// The text of `--version`: the program's name and version.
 pub fn version_text(alloc: Global) -> Result<String, AllocError> {
-    text_of(alloc, Question::Version)
+    told_text(alloc, &TOOL, Question::Version)
 }

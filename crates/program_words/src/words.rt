@@ -1,12 +1,37 @@
 //! The commands.
 ghost use Rattle.std.specs.Prelude.{◌≡◌, ◌≤◌, ◌↔◌, Ok, Some, None, IfOk, IfErr, IfSome, IsOk, IsTrue, [], ◌∷◌, ◌<◌, codes};
 ghost use Rattle.program_words.specs.declared.words.Words.{Words};
-ghost use Rattle.std.specs.Str.{bytes_eq};
 ghost use Rattle.program_words.specs.Numbers.{number_in};
-ghost use Rattle.program_words.specs.Commands.{is_file_word, misfit_of, feed_places, serve_places, batch_places, misfit, Spells, SpellsBehindSeed, places_behind_seed, places_behind_batch, place_of};
+ghost use Rattle.program_words.specs.Commands.{misfit_of, feed_places, serve_places, batch_places, misfit, Spells, SpellsBehindSeed, places_behind_seed, places_behind_batch, place_of};
 
 use crate::number::number_in;
+use crate::reading::{file_behind, last_file, split_word};
+use crate::told::Row;
 use gem_ids::Text80;
+
+// `feed CONFIG`
+const FEED: Row = Row {
+    name: "feed",
+    words: "CONFIG",
+    does: "Reads lines from standard input and prints lines",
+};
+
+// `serve CONFIG`
+const SERVE: Row = Row {
+    name: "serve",
+    words: "CONFIG",
+    does: "Listens on 127.0.0.1 and reads a script from standard input",
+};
+
+// `batch SEED CARRIERS CONFIG`
+const BATCH: Row = Row {
+    name: "batch",
+    words: "SEED CARRIERS CONFIG",
+    does: "Processes carriers, reads no input and prints a summary",
+};
+
+/// The table of the commands, in the order in which the usage text has them.
+pub(crate) const COMMANDS: &[Row] = &[FEED, SERVE, BATCH];
 
 // The greatest seed.
 const MOST_SEED: u64 = u64::MAX;
@@ -34,63 +59,12 @@ pub enum WordsFault {
     Place(u64),
 }
 
-// Whether a word can name a file: it isn't empty, and doesn't begin with a minus.
-fn is_file(word: &Text80) -> bool
-    ensures { result ≡ is_file_word word.now }
-{
-    let bytes = word.as_bytes();
-    !bytes.is_empty() && !bytes.starts_with(b"-".as_slice())
-}
-
-// The first word and those behind it.
-fn split_word(words: &[Text80]) -> Option<(Text80, &[Text80])>
-    ensures some { IfSome result (λ r. words.now ≡ r.0 ∷ r.1.now) }
-    ensures none { result ≡ None → words.now ≡ [] }
-{
-    match words {
-        [] => None,
-        [word, words @ ..] => Some((*word, words)),
-    }
-}
-
-// The file that is the last of these words, or the place of the first that doesn't fit, counted on from this one.
-fn last_file(words: &[Text80], place: u64) -> Result<Text80, u64>
-    requires { place < 10 }
-    ensures ok { IfOk result (λ config. (words.now ≡ config ∷ []) × IsTrue (is_file_word config)) }
-    ensures place { IfErr result (λ p. misfit_of place (is_file_word ∷ []) words.now ≡ Some p) }
-{
-    let Some((config, words)) = split_word(words) else {
-        return Err(place);
-    };
-    if !is_file(&config) {
-        return Err(place);
-    }
-    match split_word(words) {
-        None => Ok(config),
-        Some(_) => Err(place + 1),
-    }
-}
-
-// The file behind this name, where the words are both, or the place of the first that doesn't fit.
-fn file_behind(name: &[u8], words: &[Text80]) -> Result<Text80, u64>
-    ensures ok { IfOk result (λ config. (words.now ≡ name.now ∷ (config ∷ [])) × IsTrue (is_file_word config)) }
-    ensures place { IfErr result (λ place. misfit_of 0 ((λ word. bytes_eq word name.now) ∷ (is_file_word ∷ [])) words.now ≡ Some place) }
-{
-    let Some((word, words)) = split_word(words) else {
-        return Err(0);
-    };
-    if word.as_bytes() != name {
-        return Err(0);
-    }
-    last_file(words, 1)
-}
-
 // The command `feed CONFIG`, or the place of the first word that doesn't fit it.
 fn feed_of(words: &[Text80]) -> Result<Words, u64>
     ensures ok { IfOk result (λ w. Spells words.now w) }
     ensures place { IfErr result (λ place. misfit_of 0 feed_places words.now ≡ Some place) }
 {
-    match file_behind(b"feed".as_slice(), words) {
+    match file_behind(FEED.name.as_bytes(), words) {
         Ok(config) => Ok(Words::Feed(config)),
         Err(place) => Err(place),
     }
@@ -101,7 +75,7 @@ fn serve_of(words: &[Text80]) -> Result<Words, u64>
     ensures ok { IfOk result (λ w. Spells words.now w) }
     ensures place { IfErr result (λ place. misfit_of 0 serve_places words.now ≡ Some place) }
 {
-    match file_behind(b"serve".as_slice(), words) {
+    match file_behind(SERVE.name.as_bytes(), words) {
         Ok(config) => Ok(Words::Serve(config)),
         Err(place) => Err(place),
     }
@@ -146,7 +120,7 @@ fn batch_of(words: &[Text80]) -> Result<Words, u64>
     let Some((name, words)) = split_word(words) else {
         return Err(0);
     };
-    if name.as_bytes() != b"batch".as_slice() {
+    if name.as_bytes() != BATCH.name.as_bytes() {
         return Err(0);
     }
     batch_behind_name(words)
@@ -165,12 +139,12 @@ pub fn command_of(words: &[Text80]) -> Result<Words, WordsFault>
         Ok(command) => return Ok(command),
         Err(place) => place,
     };
-    let batch = match batch_of(words) {
+    let serve = match serve_of(words) {
         Ok(command) => return Ok(command),
         Err(place) => place,
     };
-    match serve_of(words) {
+    match batch_of(words) {
         Ok(command) => Ok(command),
-        Err(place) => Err(WordsFault::Place(feed.max(batch).max(place))),
+        Err(place) => Err(WordsFault::Place(feed.max(serve).max(place))),
     }
 }

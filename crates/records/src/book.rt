@@ -1,6 +1,6 @@
-//! Records in the order in which they came, in room that is taken once.
+//! Records in the order in which they came, in room that is taken once, and more where it is wanted.
 
-ghost use Rattle.std.specs.Prelude.{◌≡◌, ◌<◌, ◌++◌, [], ◌∷◌, true, not, length, map, position, slice_get, option_copied, IfOk};
+ghost use Rattle.std.specs.Prelude.{◌≡◌, ◌<◌, ◌++◌, [], ◌∷◌, true, not, length, map, position, slice_get, option_copied, IfOk, IfErr};
 ghost use Rattle.std.specs.List.{filter};
 ghost use Rattle.records.specs.Numbers.{has_number, record_numbered, is_numbered, change_numbered};
 ghost use Rattle.records.specs.Names.{has_name, record_named, is_named, change_named, without_named, are_named_apart};
@@ -8,11 +8,12 @@ ghost use Rattle.records.specs.Names.{has_name, record_named, is_named, change_n
 use crate::change::Change;
 use crate::names::Named;
 use crate::numbered::Numbered;
+use crate::test::Test;
 use std::alloc::{AllocError, Global};
 use std::marker::Model;
 
 /// Records in the order in which they came, which contracts see as the list of them with the number of those that there is room
-/// for. Only `new` takes memory. Whose numbers and names may be the same is for the caller.
+/// for. Only `new` and `push_growing` take memory. Whose numbers and names may be the same is for the caller.
 #[derive(Drop)]
 pub struct Book<R: Drop> {
     list: Vec<R>,
@@ -73,11 +74,28 @@ impl<R: Drop> Book<R> {
         self.list.push_reserved(one);
     }
 
+    /// One more record comes behind the others, and room is taken for it where there is none. `AllocError` for want of memory, and
+    /// then nothing has changed.
+    pub fn push_growing(&mut self, one: R) -> Result<(), AllocError>
+        ensures added { IfOk result (λ _. self.new ≡ record self.old { kept = self.old.kept ++ one ∷ [] }) }
+        ensures unchanged { IfErr result (λ _. self.new ≡ self.old) }
+    {
+        self.list.push(one)?;
+        Ok(())
+    }
+
     /// Each record changes.
     pub fn change_each<C: Change<R>>(&mut self, change: &C)
         ensures { self.new ≡ record self.old { kept = map (C.does change.now) self.old.kept } }
     {
         change_all(&mut self.list, change);
+    }
+
+    /// The records that pass a test aren't there any more; the others keep their order, and the room stays.
+    pub fn forget_where<T: Test<R>>(&mut self, test: &T)
+        ensures { self.new ≡ record self.old { kept = filter (λ r. not (T.passes test.now r)) self.old.kept } }
+    {
+        self.list.retain(|one| !test.passes(one));
     }
 }
 

@@ -1,50 +1,101 @@
 -- The best pick is what the profile says.
-use Rattle.std.proofs.Common.{◌≡◌, inl, inr, ℕ, zero, suc, ◌==◌, ◌≤◌, ◌<◌, nat_lt, Bool, true, false, true≢false, cond, ◌&&◌, List, [], ◌∷◌, filter, Option, Some, None, slice_get, refl, sym, ◌∙◌, subst, arith}
+use Rattle.std.proofs.Common.{Decides, ◌≡◌, ◌⊎◌, inl, inr, ℕ, zero, suc, ◌==◌, ◌≤◌, ◌<◌, nat_lt, nat_le, Bool, true, false, true≢false, cond, ◌&&◌, ◌||◌, List, [], ◌∷◌, filter, Option, Some, None, slice_get, refl, sym, ◌∙◌, subst, arith}
 use Rattle.std.specs.List.{AllByRecursion}
-use Rattle.std.specs.Option.{option_or}
-use Rattle.std.proofs.lemmas.Bool.Decides.{nat_tests, Decides-eqb}
-use Rattle.gem_ids.specs.declared.numbers.LocId.{LocId}
-use Rattle.gem_ids.specs.declared.numbers.LocId.TheVariants.{Slot, Aligner, Arm, Chamber}
-use Rattle.robot_moves.specs.Moves.{lesser, least_numbered, is_useful, is_useful_at, stage_of, stage_pick, best_pick}
+use Rattle.std.proofs.lemmas.Bool.Decides.{nat_tests, not_from_Decides, Decides-or, Decides-and, Decides-ltb, Decides-eqb}
+use Rattle.robot_moves.specs.Moves.{stage_of, goes_first, first_of_two, first_among, is_useful, best_pick}
 use Rattle.robot_moves.specs.Best.{GoesFirst, IsBestPick, NoneUseful}
 use Rattle.robot_moves.specs.declared.module.Module.{Module}
 use Rattle.robot_moves.specs.declared.view.PlaceView.{PlaceView}
 
--- ---- the least number
+-- ---- which of two goes first
 
--- one of several has the least number
-pub record IsLeast (vs : List PlaceView) (v : PlaceView) : Type 0 where
+-- by a stage and a number
+abbrev First : ℕ → ℕ → ℕ → ℕ → Type 0
+First s n t m = (t < s) ⊎ ((t ≡ s) × (n ≤ m))
+
+through : (s n t m u k : ℕ) → First s n t m → First t m u k → First s n u k
+through s n t m u k (inl l) (inl r) = inl (omega (arith, l, r))
+through s n t m u k (inl l) (inr h) = let r = h.0 in inl (omega (arith, l, r))
+through s n t m u k (inr g) (inl r) = let l = g.0 in inl (omega (arith, l, r))
+through s n t m u k (inr g) (inr h) = let l = g.1 in let r = h.1 in inr (h.0 ∙ g.0, omega (arith, l, r))
+
+alike : (s n t m : ℕ) → First s n t m → First t m s n → n ≡ m
+alike s n t m (inl l) (inl r) = absurd (omega (arith, l, r))
+alike s n t m (inl l) (inr h) = let r = h.0 in absurd (omega (arith, l, r))
+alike s n t m (inr g) (inl r) = let l = g.0 in absurd (omega (arith, l, r))
+alike s n t m (inr g) (inr h) = let l = g.1 in let r = h.1 in omega (arith, l, r)
+
+or_else : (s n t m : ℕ) → (First s n t m → ⊥) → First t m s n
+or_else s n t m not_first = of (nat_lt s t) refl (nat_lt t s) refl (nat_le m n) refl where
+  of : (a : Bool) → nat_lt s t ≡ a → (b : Bool) → nat_lt t s ≡ b → (c : Bool) → nat_le m n ≡ c → First t m s n
+  of true p b q c r = let l : s < t = grind (arith, nat_tests) in inl l
+  of false p true q c r = let l : t < s = grind (arith, nat_tests) in absurd (not_first (inl l))
+  of false p false q true r =
+      let one : s ≡ t = grind (arith, nat_tests) in
+      let l : m ≤ n = grind (arith, nat_tests) in
+      inr (one, l)
+  of false p false q false r =
+      let one : t ≡ s = grind (arith, nat_tests) in
+      let l : n ≤ m = grind (arith, nat_tests) in
+      absurd (not_first (inr (one, l)))
+
+number_test : (n m : ℕ) → Decides (nat_le n m) (n ≤ m)
+number_test n m = (λ e. grind (arith, nat_tests), λ l. grind (arith, nat_tests))
+
+module _ (v w : PlaceView) where
+  -- the test tells it
+  pub first_test : Decides (goes_first v w) (GoesFirst v w)
+  first_test =
+      Decides-or (nat_lt (stage_of w.at) (stage_of v.at)) ((stage_of w.at == stage_of v.at) && nat_le v.number w.number) (Decides-ltb (stage_of w.at) (stage_of v.at))
+      (Decides-and (stage_of w.at == stage_of v.at) (nat_le v.number w.number) (Decides-eqb (stage_of w.at) (stage_of v.at)) (number_test v.number w.number))
+
+  -- the other does where one doesn't
+  pub other_first : goes_first v w ≡ false → GoesFirst w v
+  other_first e = or_else (stage_of v.at) v.number (stage_of w.at) w.number (not_from_Decides (goes_first v w) first_test e)
+
+  -- where both do, they have one number
+  pub one_number_of : GoesFirst v w → GoesFirst w v → v.number ≡ w.number
+  one_number_of g h = alike (stage_of v.at) v.number (stage_of w.at) w.number g h
+
+pub first_own : (v : PlaceView) → GoesFirst v v
+first_own v = inr (refl, omega arith)
+
+pub first_through : (u v w : PlaceView) → GoesFirst u v → GoesFirst v w → GoesFirst u w
+first_through u v w g h = through (stage_of u.at) u.number (stage_of v.at) v.number (stage_of w.at) w.number g h
+
+-- ---- the first of several
+
+-- one of several goes first of all
+pub record IsFirst (vs : List PlaceView) (v : PlaceView) : Type 0 where
   pub there : (i : ℕ) × (slice_get vs i ≡ Some v)
-  pub least : AllByRecursion (λ (w : PlaceView). v.number ≤ w.number) vs
+  pub first : AllByRecursion (GoesFirst v) vs
 
-lower : (n m : ℕ) (vs : List PlaceView) → n ≤ m → AllByRecursion (λ (w : PlaceView). m ≤ w.number) vs → AllByRecursion (λ (w : PlaceView). n ≤ w.number) vs
-lower n m [] l h = h
-lower n m (v ∷ vs) l h = (omega (arith, l, h.0), lower n m vs l h.1)
+before_all : (u v : PlaceView) (vs : List PlaceView) → GoesFirst u v → AllByRecursion (GoesFirst v) vs → AllByRecursion (GoesFirst u) vs
+before_all u v [] l h = tt
+before_all u v (w ∷ ws) l h = (first_through u v w l h.0, before_all u v ws l h.1)
 
-pub is_least : (vs : List PlaceView) (v : PlaceView) → least_numbered vs ≡ Some v → IsLeast vs v
-is_least [] v e = absurd (cc)
-is_least (w ∷ ws) v e = by_option (least_numbered ws) refl (is_least ws) e where
-  alone : (us : List PlaceView) → least_numbered us ≡ None → AllByRecursion (λ (u : PlaceView). w.number ≤ u.number) us
+pub is_first : (vs : List PlaceView) (v : PlaceView) → first_among vs ≡ Some v → IsFirst vs v
+is_first [] v e = absurd (cc)
+is_first (w ∷ ws) v e = by_option (first_among ws) refl (is_first ws) e where
+  alone : (us : List PlaceView) → first_among us ≡ None → AllByRecursion (GoesFirst w) us
   alone [] n = tt
   alone (u ∷ us) n = absurd (cc)
 
-  by_test : (u : PlaceView) → IsLeast ws u → (b : Bool) → nat_lt u.number w.number ≡ b → IsLeast (w ∷ ws) (cond b u w)
+  by_test : (u : PlaceView) → IsFirst ws u → (b : Bool) → goes_first w u ≡ b → IsFirst (w ∷ ws) (cond b w u)
   by_test u h true q =
-      let l : u.number ≤ w.number = grind (arith, nat_tests) in
-      record { there = (suc h.there.0, h.there.1); least = (l, h.least) }
+      record { there = (0, refl); first = (first_own w, before_all w u ws ((first_test w u).0 q) h.first) }
   by_test u h false q =
-      let l : w.number ≤ u.number = grind (arith, nat_tests) in
-      record { there = (0, refl); least = (omega arith, lower w.number u.number ws l h.least) }
+      record { there = (suc h.there.0, h.there.1); first = (other_first w u q, h.first) }
 
-  by_option : (o : Option PlaceView) → least_numbered ws ≡ o → ((u : PlaceView) → least_numbered ws ≡ Some u → IsLeast ws u) → Some (lesser w o) ≡ Some v → IsLeast (w ∷ ws) v
+  by_option : (o : Option PlaceView) → first_among ws ≡ o → ((u : PlaceView) → first_among ws ≡ Some u → IsFirst ws u) → Some (first_of_two w o) ≡ Some v → IsFirst (w ∷ ws) v
   by_option None n later f =
       let same : w ≡ v = cc in
-      subst (IsLeast (w ∷ ws)) same (record { there = (0, refl); least = (omega arith, alone ws n) })
+      subst (IsFirst (w ∷ ws)) same (record { there = (0, refl); first = (first_own w, alone ws n) })
   by_option (Some u) s later f =
-      let same : lesser w (Some u) ≡ v = cc in
-      subst (IsLeast (w ∷ ws)) same (by_test u (later u s) (nat_lt u.number w.number) refl)
+      let same : first_of_two w (Some u) ≡ v = cc in
+      subst (IsFirst (w ∷ ws)) same (by_test u (later u s) (goes_first w u) refl)
 
--- ---- of a stage
+-- ---- those that pass
 
 -- what is among those that pass is among all, and passes
 pub among : (test : PlaceView → Bool) (vs : List PlaceView) (v : PlaceView) (i : ℕ) → slice_get (filter test vs) i ≡ Some v → ((j : ℕ) × (slice_get vs j ≡ Some v)) × (test v ≡ true)
@@ -65,131 +116,25 @@ of_passing test P (w ∷ ws) h = by_test (test w) refl h (of_passing test P ws) 
   by_test true q g later = (λ _. g.0, later g.1)
   by_test false q g later = (λ p. absurd (true≢false (sym p ∙ q)), later g)
 
-pub none_passes : (test : PlaceView → Bool) (vs : List PlaceView) → least_numbered (filter test vs) ≡ None → AllByRecursion (λ (w : PlaceView). test w ≡ false) vs
+pub none_passes : (test : PlaceView → Bool) (vs : List PlaceView) → first_among (filter test vs) ≡ None → AllByRecursion (λ (w : PlaceView). test w ≡ false) vs
 none_passes test [] e = tt
 none_passes test (w ∷ ws) e = by_test (test w) refl e (none_passes test ws) where
-  by_test : (b : Bool) → test w ≡ b → least_numbered (cond b (w ∷ filter test ws) (filter test ws)) ≡ None → (least_numbered (filter test ws) ≡ None → AllByRecursion (λ (u : PlaceView). test u ≡ false) ws) → AllByRecursion (λ (u : PlaceView). test u ≡ false) (w ∷ ws)
+  by_test : (b : Bool) → test w ≡ b → first_among (cond b (w ∷ filter test ws) (filter test ws)) ≡ None → (first_among (filter test ws) ≡ None → AllByRecursion (λ (u : PlaceView). test u ≡ false) ws) → AllByRecursion (λ (u : PlaceView). test u ≡ false) (w ∷ ws)
   by_test true q f later = absurd (cc)
   by_test false q f later = (q, later f)
 
--- ---- of all stages
-
-and_both : (a b : Bool) → (a && b) ≡ true → (a ≡ true) × (b ≡ true)
-and_both true b h = (refl, h)
-and_both false b h = absurd (true≢false (sym h))
-
--- a stage is 2 at most
-stage_few : (l : LocId) → stage_of l ≤ 2
-stage_few (Slot p k) = omega arith
-stage_few Aligner = omega arith
-stage_few Arm = omega arith
-stage_few (Chamber c) = omega arith
+-- ---- the best pick
 
 module _ (views : List PlaceView) (modules : List Module) where
-  -- the pick of a stage, and those of this stage
-  record IsStagePick (stage : ℕ) (v : PlaceView) : Type 0 where
-    there : (i : ℕ) × (slice_get views i ≡ Some v)
-    stands : stage_of v.at ≡ stage
-    useful : is_useful views modules v ≡ true
-    least : AllByRecursion (λ (w : PlaceView). is_useful_at stage views modules w ≡ true → v.number ≤ w.number) views
-
-  is_stage_pick : (stage : ℕ) (v : PlaceView) → stage_pick stage views modules ≡ Some v → IsStagePick stage v
-  is_stage_pick stage v e =
-      let found = is_least (filter (is_useful_at stage views modules) views) v e in
-      let here = among (is_useful_at stage views modules) views v found.there.0 found.there.1 in
-      let parts = and_both (stage_of v.at == stage) (is_useful views modules v) here.1 in
+  pub best_is : (v : PlaceView) → best_pick views modules ≡ Some v → IsBestPick views modules v
+  best_is v e =
+      let found = is_first (filter (is_useful views modules) views) v e in
+      let here = among (is_useful views modules) views v found.there.0 found.there.1 in
       record {
         there = here.0;
-        stands = (Decides-eqb (stage_of v.at) stage).0 parts.0;
-        useful = parts.1;
-        least = of_passing (is_useful_at stage views modules) (λ (w : PlaceView). v.number ≤ w.number) views found.least;
+        useful = here.1;
+        first = of_passing (is_useful views modules) (GoesFirst v) views found.first;
       }
 
-  -- none of a stage is useful
-  abbrev IsIdleStage : ℕ → Type 0
-  IsIdleStage stage = AllByRecursion (λ (w : PlaceView). is_useful_at stage views modules w ≡ false) views
-
-  -- one goes behind the pick of a stage, where it isn't useful at a greater one
-  goes_first : (stage : ℕ) (v w : PlaceView) → stage_of v.at ≡ stage → ((k : ℕ) → stage < k → k ≤ 2 → is_useful_at k views modules w ≡ false) → (is_useful_at stage views modules w ≡ true → v.number ≤ w.number) → is_useful views modules w ≡ true → GoesFirst v w
-  goes_first stage v w stands none least useful = by_order (nat_lt (stage_of w.at) stage) refl (nat_lt stage (stage_of w.at)) refl where
-    own : is_useful_at (stage_of w.at) views modules w ≡ true
-    own = rw ((Decides-eqb (stage_of w.at) (stage_of w.at)).1 refl, useful) refl
-
-    by_order : (a : Bool) → nat_lt (stage_of w.at) stage ≡ a → (b : Bool) → nat_lt stage (stage_of w.at) ≡ b → GoesFirst v w
-    by_order true p b q =
-        let l : stage_of w.at < stage = grind (arith, nat_tests) in
-        inl (subst (λ (n : ℕ). stage_of w.at < n) (sym stands) l)
-    by_order false p true q =
-        let l : stage < stage_of w.at = grind (arith, nat_tests) in
-        absurd (true≢false (sym own ∙ none (stage_of w.at) l (stage_few w.at)))
-    by_order false p false q =
-        let same : stage_of w.at ≡ stage = grind (arith, nat_tests) in
-        inr (same ∙ sym stands, least (subst (λ (n : ℕ). is_useful_at n views modules w ≡ true) same own))
-
-  all_first : (stage : ℕ) (v : PlaceView) (ws : List PlaceView) → stage_of v.at ≡ stage → ((k : ℕ) → stage < k → k ≤ 2 → AllByRecursion (λ (w : PlaceView). is_useful_at k views modules w ≡ false) ws) → AllByRecursion (λ (w : PlaceView). is_useful_at stage views modules w ≡ true → v.number ≤ w.number) ws → AllByRecursion (λ (w : PlaceView). is_useful views modules w ≡ true → GoesFirst v w) ws
-  all_first stage v [] stands none least = tt
-  all_first stage v (w ∷ ws) stands none least =
-      (goes_first stage v w stands (λ k a b. (none k a b).0) least.0, all_first stage v ws stands (λ k a b. (none k a b).1) least.1)
-
-  is_best : (stage : ℕ) (v : PlaceView) → stage_pick stage views modules ≡ Some v → ((k : ℕ) → stage < k → k ≤ 2 → IsIdleStage k) → IsBestPick views modules v
-  is_best stage v e none =
-      let pick = is_stage_pick stage v e in
-      record { there = pick.there; useful = pick.useful; first = all_first stage v views pick.stands none pick.least }
-
-  idle_stage : (stage : ℕ) → stage_pick stage views modules ≡ None → IsIdleStage stage
-  idle_stage stage e = none_passes (is_useful_at stage views modules) views e
-
-  -- the stages past 1, and past 0
-  past_one : IsIdleStage 2 → (k : ℕ) → 1 < k → k ≤ 2 → IsIdleStage k
-  past_one two k a b =
-      let same : 2 ≡ k = omega arith in
-      subst IsIdleStage same two
-
-  past_none : IsIdleStage 1 → IsIdleStage 2 → (k : ℕ) → 0 < k → k ≤ 2 → IsIdleStage k
-  past_none one two zero a b = absurd (omega arith)
-  past_none one two (suc zero) a b = one
-  past_none one two (suc (suc zero)) a b = two
-  past_none one two (suc (suc (suc k))) a b = absurd (omega arith)
-
-  pub best_is : (v : PlaceView) → best_pick views modules ≡ Some v → IsBestPick views modules v
-  best_is v e = by_two (stage_pick 2 views modules) refl e where
-    by_none : IsIdleStage 2 → IsIdleStage 1 → stage_pick 0 views modules ≡ Some v → IsBestPick views modules v
-    by_none two one f = is_best 0 v f (past_none one two)
-
-    by_one : IsIdleStage 2 → (o : Option PlaceView) → stage_pick 1 views modules ≡ o → option_or o (stage_pick 0 views modules) ≡ Some v → IsBestPick views modules v
-    by_one two None s f = by_none two (idle_stage 1 s) f
-    by_one two (Some u) s f = is_best 1 v (s ∙ f) (past_one two)
-
-    by_two : (o : Option PlaceView) → stage_pick 2 views modules ≡ o → option_or o (option_or (stage_pick 1 views modules) (stage_pick 0 views modules)) ≡ Some v → IsBestPick views modules v
-    by_two None s f = by_one (idle_stage 2 s) (stage_pick 1 views modules) refl f
-    by_two (Some u) s f = is_best 2 v (s ∙ f) (λ k a b. absurd (omega arith))
-
-  -- ---- where there is none
-
-  useless : (w : PlaceView) → is_useful_at 0 views modules w ≡ false → is_useful_at 1 views modules w ≡ false → is_useful_at 2 views modules w ≡ false → is_useful views modules w ≡ false
-  useless w zero_idle one_idle two_idle = by_test (is_useful views modules w) refl where
-    at_own : (k : ℕ) → stage_of w.at ≡ k → k ≤ 2 → is_useful_at k views modules w ≡ false
-    at_own zero s l = zero_idle
-    at_own (suc zero) s l = one_idle
-    at_own (suc (suc zero)) s l = two_idle
-    at_own (suc (suc (suc k))) s l = absurd (omega arith)
-
-    by_test : (b : Bool) → is_useful views modules w ≡ b → is_useful views modules w ≡ false
-    by_test true q =
-        let own : is_useful_at (stage_of w.at) views modules w ≡ true = rw ((Decides-eqb (stage_of w.at) (stage_of w.at)).1 refl, q) refl in
-        absurd (true≢false (sym own ∙ at_own (stage_of w.at) refl (stage_few w.at)))
-    by_test false q = q
-
-  all_useless : (ws : List PlaceView) → AllByRecursion (λ (w : PlaceView). is_useful_at 0 views modules w ≡ false) ws → AllByRecursion (λ (w : PlaceView). is_useful_at 1 views modules w ≡ false) ws → AllByRecursion (λ (w : PlaceView). is_useful_at 2 views modules w ≡ false) ws → AllByRecursion (λ (w : PlaceView). is_useful views modules w ≡ false) ws
-  all_useless [] zeros ones twos = tt
-  all_useless (w ∷ ws) zeros ones twos = (useless w zeros.0 ones.0 twos.0, all_useless ws zeros.1 ones.1 twos.1)
-
-  both_none : (a b : Option PlaceView) → option_or a b ≡ None → (a ≡ None) × (b ≡ None)
-  both_none None b e = (refl, e)
-  both_none (Some v) b e = absurd (cc)
-
   pub none_is : best_pick views modules ≡ None → NoneUseful views modules
-  none_is e =
-      let two = both_none (stage_pick 2 views modules) (option_or (stage_pick 1 views modules) (stage_pick 0 views modules)) e in
-      let one = both_none (stage_pick 1 views modules) (stage_pick 0 views modules) two.1 in
-      all_useless views (idle_stage 0 one.1) (idle_stage 1 one.0) (idle_stage 2 two.0)
+  none_is e = none_passes (is_useful views modules) views e

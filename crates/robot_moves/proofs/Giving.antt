@@ -6,7 +6,7 @@ use Rattle.gem_ids.specs.declared.numbers.LocId.{LocId}
 use Rattle.gem_ids.specs.declared.numbers.LocId.TheVariants.{Slot, Aligner, Arm, Chamber}
 use Rattle.substrate.specs.Locations.{is_same, is_work_place}
 use Rattle.robot_moves.specs.Modules.{module_at, is_idle}
-use Rattle.robot_moves.specs.Moves.{holder, free_target, may_leave, is_useful_at, least_numbered, stage_pick, best_pick, pick_move, arm_move, robot_move, align_move, aligner_move, process_move, chamber_move, module_move}
+use Rattle.robot_moves.specs.Moves.{holder, free_target, may_leave, is_useful, first_among, best_pick, pick_move, arm_move, robot_move, align_move, aligner_move, process_move, chamber_move, module_move}
 use Rattle.robot_moves.specs.Best.{Rests, AllRest}
 use Rattle.robot_moves.specs.declared.module.Module.{Module}
 use Rattle.robot_moves.specs.declared.view.PlaceView.{PlaceView}
@@ -109,15 +109,15 @@ stays modules v Aligner still starts = absurd (true≢false still)
 stays modules v Arm still starts = absurd (true≢false still)
 stays modules v (Chamber c) still starts = absurd (true≢false still)
 
-not_useful : (stage : ℕ) (views : List PlaceView) (modules : List Module) (v : PlaceView) → Rests v → is_useful_at stage views modules v ≡ false
-not_useful stage views modules v rest = rw (stays modules v v.at rest.0 rest.1) (and_none _)
+not_useful : (views : List PlaceView) (modules : List Module) (v : PlaceView) → Rests v → is_useful views modules v ≡ false
+not_useful views modules v rest = rw (stays modules v v.at rest.0 rest.1) refl
 
-none_pass : (stage : ℕ) (views : List PlaceView) (modules : List Module) (vs : List PlaceView) → AllRest vs → filter (is_useful_at stage views modules) vs ≡ []
-none_pass stage views modules [] rest = refl
-none_pass stage views modules (v ∷ vs) rest = rw (not_useful stage views modules v rest.0) (none_pass stage views modules vs rest.1)
+none_pass : (views : List PlaceView) (modules : List Module) (vs : List PlaceView) → AllRest vs → filter (is_useful views modules) vs ≡ []
+none_pass views modules [] rest = refl
+none_pass views modules (v ∷ vs) rest = rw (not_useful views modules v rest.0) (none_pass views modules vs rest.1)
 
-no_pick : (stage : ℕ) (views : List PlaceView) (modules : List Module) → AllRest views → stage_pick stage views modules ≡ None
-no_pick stage views modules rest = ap least_numbered (none_pass stage views modules views rest)
+no_pick : (views : List PlaceView) (modules : List Module) → AllRest views → best_pick views modules ≡ None
+no_pick views modules rest = ap first_among (none_pass views modules views rest)
 
 nothing_else : {A : Type 0} (b : Bool) (o : Option A) → o ≡ None → (if b then o else None) ≡ None
 nothing_else true o e = e
@@ -126,7 +126,7 @@ nothing_else false o e = refl
 robot_rests : (views : List PlaceView) (modules : List Module) → AllRest views → robot_move views modules ≡ None
 robot_rests views modules rest =
     nothing_else (is_idle (module_at 1 modules)) (arm_move views modules (holder Arm views))
-    (ap (arm_move views modules) (none_held Arm views refl rest) ∙ rw (no_pick 2 views modules rest, no_pick 1 views modules rest, no_pick 0 views modules rest) refl)
+    (ap (arm_move views modules) (none_held Arm views refl rest) ∙ ap (option_map pick_move) (no_pick views modules rest))
 
 aligner_rests : (views : List PlaceView) (modules : List Module) → AllRest views → aligner_move views modules ≡ None
 aligner_rests views modules rest = nothing_else (is_idle (module_at 2 modules)) (align_move (holder Aligner views)) (ap align_move (none_held Aligner views refl rest))

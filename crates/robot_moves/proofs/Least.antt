@@ -1,12 +1,14 @@
--- Which of several is the least numbered, and who is at a location, by what is known of each.
+-- Which of several is the best pick, and who is at a location, by what is known of each.
 use Rattle.std.proofs.Common.{◌≡◌, ℕ, zero, suc, ◌<◌, ◌≤◌, Bool, true, false, true≢false, cond, not, ◌||◌, List, [], ◌∷◌, filter, Option, Some, None, is_some, slice_get, refl, sym, ap, ◌∙◌, subst, arith}
 use Rattle.std.specs.List.{AllByRecursion, list_any}
 use Rattle.gem_ids.specs.declared.numbers.LocId.{LocId}
 use Rattle.substrate.specs.Locations.{is_same}
 use Rattle.substrate.proofs.Sites.{same_is, own_place}
-use Rattle.robot_moves.specs.Moves.{holder, is_empty, least_numbered}
+use Rattle.robot_moves.specs.Moves.{holder, is_empty, is_useful, best_pick}
+use Rattle.robot_moves.specs.Best.{GoesFirst}
+use Rattle.robot_moves.specs.declared.module.Module.{Module}
 use Rattle.robot_moves.specs.declared.view.PlaceView.{PlaceView}
-use Rattle.robot_moves.proofs.Best.{is_least, among, of_passing, none_passes}
+use Rattle.robot_moves.proofs.Best.{one_number_of, best_is, none_is}
 
 -- what is true of all is true of each
 pub all_at : (P : PlaceView → Type 0) (vs : List PlaceView) (i : ℕ) (v : PlaceView) → AllByRecursion P vs → slice_get vs i ≡ Some v → P v
@@ -52,29 +54,29 @@ one_number last (w ∷ ws) (suc i) zero u v h a b e =
     absurd (omega (arith, later, number, e))
 one_number last (w ∷ ws) (suc i) (suc j) u v h a b e = one_number w.number ws i j u v h.1 a b e
 
--- ---- the least of those that pass
+-- ---- the best pick
 
--- there is none where none passes
-pub no_pick : (test : PlaceView → Bool) (vs : List PlaceView) → ((i : ℕ) (w : PlaceView) → slice_get vs i ≡ Some w → test w ≡ false) → least_numbered (filter test vs) ≡ None
-no_pick test [] fails = refl
-no_pick test (w ∷ ws) fails = rw (fails 0 w refl) (no_pick test ws (λ i v e. fails (suc i) v e))
+module _ (views : List PlaceView) (modules : List Module) where
+  -- there is none where none is useful
+  pub no_best : ((i : ℕ) (w : PlaceView) → slice_get views i ≡ Some w → is_useful views modules w ≡ true → ⊥) → best_pick views modules ≡ None
+  no_best none = of (best_pick views modules) refl where
+    of : (o : Option PlaceView) → best_pick views modules ≡ o → best_pick views modules ≡ None
+    of None e = e
+    of (Some u) e = let best = best_is views modules u e in absurd (none best.there.0 u best.there.1 best.useful)
 
--- it is one that passes, where none of those that pass has a lesser number
-pub the_pick : (test : PlaceView → Bool) (last : ℕ) (vs : List PlaceView) (i : ℕ) (v : PlaceView) → RisesFrom last vs → slice_get vs i ≡ Some v → test v ≡ true
-    → ((j : ℕ) (w : PlaceView) → slice_get vs j ≡ Some w → test w ≡ true → v.number ≤ w.number) → least_numbered (filter test vs) ≡ Some v
-the_pick test last vs i v rises at passes least = of (least_numbered (filter test vs)) refl where
-  of : (o : Option PlaceView) → least_numbered (filter test vs) ≡ o → least_numbered (filter test vs) ≡ Some v
-  of None e =
-      let fails = all_at (λ (w : PlaceView). test w ≡ false) vs i v (none_passes test vs e) at in
-      absurd (true≢false (sym passes ∙ fails))
-  of (Some u) e =
-      let found = is_least (filter test vs) u e in
-      let here = among test vs u found.there.0 found.there.1 in
-      let others = of_passing test (λ (w : PlaceView). u.number ≤ w.number) vs found.least in
-      let below : u.number ≤ v.number = all_at (λ (w : PlaceView). test w ≡ true → u.number ≤ w.number) vs i v others at passes in
-      let above : v.number ≤ u.number = least here.0.0 u here.0.1 here.1 in
-      let number : u.number ≡ v.number = omega (arith, below, above) in
-      e ∙ ap (λ (w : PlaceView). Some w) (one_number last vs here.0.0 i u v rises here.0.1 at number)
+  -- it is a useful one that goes first of all that are
+  pub the_best : (last i : ℕ) (v : PlaceView) → RisesFrom last views → slice_get views i ≡ Some v → is_useful views modules v ≡ true
+      → ((j : ℕ) (w : PlaceView) → slice_get views j ≡ Some w → is_useful views modules w ≡ true → GoesFirst v w) → best_pick views modules ≡ Some v
+  the_best last i v rises at useful first = of (best_pick views modules) refl where
+    of : (o : Option PlaceView) → best_pick views modules ≡ o → best_pick views modules ≡ Some v
+    of None e =
+        let useless = all_at (λ (w : PlaceView). is_useful views modules w ≡ false) views i v (none_is views modules e) at in
+        absurd (true≢false (sym useful ∙ useless))
+    of (Some u) e =
+        let best = best_is views modules u e in
+        let before : GoesFirst u v = all_at (λ (w : PlaceView). is_useful views modules w ≡ true → GoesFirst u w) views i v best.first at useful in
+        let number : u.number ≡ v.number = one_number_of u v before (first best.there.0 u best.there.1 best.useful) in
+        e ∙ ap (λ (w : PlaceView). Some w) (one_number last views best.there.0 i u v rises best.there.1 at number)
 
 -- ---- who is where
 

@@ -1,4 +1,4 @@
-pub mod StagePicks
+pub mod Joined
 pub mod First
 pub mod Numbers
 pub mod Ending

@@ -1,5 +1,5 @@
 -- What the tool has its modules do next (this tool's profile, moves).
-use Rattle.std.specs.Prelude.{ℕ, zero, suc, ◌+◌, ◌-◌, ◌==◌, nat_lt, Bool, false, not, ◌&&◌, ◌||◌, if◌then◌else◌, List, [], ◌∷◌, length, filter, find, Option, Some, None, is_some, option_map}
+use Rattle.std.specs.Prelude.{ℕ, zero, suc, ◌+◌, ◌-◌, ◌==◌, nat_lt, nat_le, Bool, false, not, ◌&&◌, ◌||◌, if◌then◌else◌, List, [], ◌∷◌, length, filter, find, Option, Some, None, is_some, option_map}
 use Rattle.std.specs.List.{list_any}
 use Rattle.std.specs.Option.{option_or}
 use Rattle.gem_ids.specs.declared.numbers.LocId.{LocId}
@@ -83,34 +83,29 @@ stage_of Aligner = 1
 stage_of Arm = 0
 stage_of (Chamber c) = 2
 
--- of two the one with the lesser number of registration
-abbrev pub lesser : PlaceView → Option PlaceView → PlaceView
-lesser v None = v
-lesser v (Some w) = if nat_lt w.number v.number then w else v
+-- one goes first of two: its stage is greater, or it is the same, and the number of registration no greater
+abbrev pub goes_first : PlaceView → PlaceView → Bool
+goes_first v w =
+    nat_lt (stage_of w.at) (stage_of v.at) || ((stage_of w.at == stage_of v.at) && nat_le v.number w.number)
+
+-- of two the one that goes first
+abbrev pub first_of_two : PlaceView → Option PlaceView → PlaceView
+first_of_two v None = v
+first_of_two v (Some w) = if goes_first v w then v else w
 
 -- the better of the best so far, where there is one, and the next
 abbrev pub better : Option PlaceView → PlaceView → PlaceView
 better None v = v
-better (Some best) v = lesser best (Some v)
+better (Some best) v = first_of_two best (Some v)
 
--- the one of the least number of registration
-abbrev pub least_numbered : List PlaceView → Option PlaceView
-least_numbered [] = None
-least_numbered (v ∷ views) = Some (lesser v (least_numbered views))
+-- of several the one that goes first of all
+abbrev pub first_among : List PlaceView → Option PlaceView
+first_among [] = None
+first_among (v ∷ views) = Some (first_of_two v (first_among views))
 
--- a useful pick of this stage
-abbrev pub is_useful_at : ℕ → List PlaceView → List Module → PlaceView → Bool
-is_useful_at stage views modules v = (stage_of v.at == stage) && is_useful views modules v
-
--- the useful pick of this stage, of the least number of registration
-abbrev pub stage_pick : ℕ → List PlaceView → List Module → Option PlaceView
-stage_pick stage views modules =
-    least_numbered (filter (is_useful_at stage views modules) views)
-
--- the useful pick of the greatest stage, then of the least number of registration
+-- the best pick: the first of those that are useful
 abbrev pub best_pick : List PlaceView → List Module → Option PlaceView
-best_pick views modules =
-    option_or (stage_pick 2 views modules) (option_or (stage_pick 1 views modules) (stage_pick 0 views modules))
+best_pick views modules = first_among (filter (is_useful views modules) views)
 
 -- ---- what each module is to do
 

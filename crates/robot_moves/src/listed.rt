@@ -1,7 +1,7 @@
 //! What is told of the substrates that have a place, as a list: each question goes through it.
 
 ghost use Rattle.std.specs.Prelude.{◌≡◌};
-ghost use Rattle.robot_moves.specs.Moves.{holder, is_empty, is_useful_at, stage_of, better, stage_pick, best_pick};
+ghost use Rattle.robot_moves.specs.Moves.{holder, is_empty, stage_of, goes_first, better, best_pick};
 
 use crate::modules::Modules;
 use crate::targets::is_useful;
@@ -66,45 +66,34 @@ fn is_empty(places: &[PlaceView], loc: LocId) -> bool
 fn best_pick(places: &[PlaceView], modules: &Modules) -> Option<PlaceView>
     ensures { result ≡ best_pick places.now modules.now }
 {
-    if let Some(v) = stage_pick(2, places, modules) {
-        return Some(v);
-    }
-    if let Some(v) = stage_pick(1, places, modules) {
-        return Some(v);
-    }
-    stage_pick(0, places, modules)
-}
-
-// The useful pick of a stage, of the least number of registration.
-fn stage_pick(stage: u8, places: &[PlaceView], modules: &Modules) -> Option<PlaceView>
-    ensures { result ≡ stage_pick stage places.now modules.now }
-{
+    let listed = Listed { views: places };
     let mut best = None;
     for v in places {
-        if is_useful_at(stage, places, modules, v) {
+        if is_useful(&listed, modules, v) {
             best = Some(better(best, v));
         }
     }
     best
 }
 
-// Whether a pick of the substrate is useful, and of this stage.
-fn is_useful_at(stage: u8, places: &[PlaceView], modules: &Modules, v: &PlaceView) -> bool
-    ensures { result ≡ is_useful_at stage places.now modules.now v.now }
-{
-    let listed = Listed { views: places };
-    stage_of(v.at) == stage && is_useful(&listed, modules, v)
-}
-
-/// Of the best pick so far, where there is one, and the next, the one with the lesser number of registration; of equal numbers
-/// the former.
+/// Of the best pick so far, where there is one, and the next, the one that goes first: that of the greater stage, then that of the
+/// lesser number of registration; of equal numbers the former.
 pub fn better(best: Option<PlaceView>, v: &PlaceView) -> PlaceView
     ensures { result ≡ better best v.now }
 {
     match best {
-        Some(b) if v.number >= b.number => b,
+        Some(b) if goes_first(&b, v) => b,
         _ => *v,
     }
+}
+
+// Whether one goes first of two: its stage is greater, or it is the same, and the number of registration no greater.
+fn goes_first(v: &PlaceView, w: &PlaceView) -> bool
+    ensures { result ≡ goes_first v.now w.now }
+{
+    let stage = stage_of(v.at);
+    let other = stage_of(w.at);
+    other < stage || (other == stage && v.number <= w.number)
 }
 
 fn stage_of(at: LocId) -> u8

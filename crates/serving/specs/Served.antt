@@ -70,11 +70,7 @@ NotRead (cause.Words place) config config' = config' ≡ config
 NotRead (cause.Config rule key) config config' = IsRefused config config' rule key
 NotRead cause.ReadFault config config' = Rose config.faults config'.faults
 NotRead cause.NoMemory config config' = ⊤
-NotRead cause.Done config config' = ⊥
-NotRead cause.WriteFault config config' = ⊥
-NotRead (cause.Full entries bytes input) config config' = ⊥
-NotRead (cause.Line number place) config config' = ⊥
-NotRead cause.Door config config' = ⊥
+NotRead _ config config' = ⊥
 
 -- no configuration was read, and nothing happened
 pub record NothingServed {L : Type 0} (why : Cause) (config config' : SourceView) (out out' : Outside L) (log log' : SinkView) (history : List Entry) (notes : List SessionNote) : Type 0 where

@@ -6,10 +6,11 @@ use Rattle.tool_events.specs.declared.entry.Post.{Post}
 use Rattle.tool_events.specs.declared.event.Event.{Event}
 use Rattle.tool_events.specs.declared.answer.Answer.{Answer}
 use Rattle.tool_tasks.specs.declared.task.Command.{Command}
+use Rattle.text_lines.specs.Lines.{lines_of, whole_lines}
 use Rattle.line_grammar.specs.declared.line.Line.{Line}
 use Rattle.line_grammar.specs.declared.line.Line.TheVariants as line
 use Rattle.line_grammar.specs.Reading.{script_line_of}
-use Rattle.line_grammar.specs.Texts.{IsFront, is_quit, lines_of, whole_lines}
+use Rattle.line_grammar.specs.Texts.{IsFront, is_quit}
 use Rattle.sim_modules.specs.Acting.{Acting, one_more}
 use Rattle.gem_model.proofs.Tests.{either_way}
 use Rattle.actors.specs.declared.end.ActorEnd.{ActorEnd}

@@ -5,7 +5,7 @@ use Rattle.std.proofs.lemmas.Bool.{true≢false, and_parts, or_parts, or_from, b
 use Rattle.gem_tables.specs.Table.{firing, row_of}
 use Rattle.gem_tables.specs.declared.firing.Firing.{Firing}
 use Rattle.gem_tables.proofs.Rows.{looked_for}
-use Rattle.gem_tables.proofs.Machines.{starts_cases}
+use Rattle.shop_floor.proofs.EachTable.{starts_cases}
 use Rattle.load_port.specs.declared.record.Association.{Association}
 use Rattle.load_port.specs.declared.port.Port.{Port}
 use Rattle.load_port.specs.declared.port.Arrival.{Arrival}
@@ -15,7 +15,7 @@ use Rattle.carrier.specs.declared.carrier.Carrier.{Carrier}
 use Rattle.carrier.specs.Carriers.{has_name, is_known, without, most_carriers}
 use Rattle.shop_floor.specs.Floor.{Floor}
 use Rattle.shop_floor.specs.Rows.{owner, forgets, is_own, arrival_at, is_new, found_creates, creation_of_arrival}
-use Rattle.shop_floor.specs.Machines.{floor_machines, floor_starts, is_some_row, creates}
+use Rattle.shop_floor.specs.Machines.{floor_starts, is_some_row, creates}
 use Rattle.shop_floor.specs.Valid.{IsTold, IsFloor}
 use Rattle.shop_floor.proofs.Apart.{named_so}
 use Rattle.shop_floor.proofs.Belonging.{all_at}
@@ -113,20 +113,15 @@ reservation_none f port row = looked_for (λ o. is_some_row (found_creates o por
 -- a row that starts and creates is one of table 7
 of_creating : (P : Firing → Type 0) (x : Firing) (f : Floor) → (floor_starts (firing 7 x.object x.row.row) f ≡ true → creates (firing 7 x.object x.row.row) f ≡ true → P (firing 7 x.object x.row.row)) → floor_starts x f ≡ true → creates x f ≡ true → P x
 of_creating P x f at_7 starts makes =
-    starts_cases (λ (y : Firing). creates y f ≡ true → P y) f x floor_machines (
-      (λ s m. absurd (both_ways _ (transfer_none f x.object x.row.row) m)),
-      (
-        (λ s m. absurd (both_ways _ (access_none f x.object x.row.row) m)),
-        (
-          (λ s m. absurd (both_ways _ (reservation_none f x.object x.row.row) m)),
-          (
-            (λ s m. at_7 s m),
-            ((λ s m. absurd (true≢false (sym m))), ((λ s m. absurd (true≢false (sym m))), ((λ s m. absurd (true≢false (sym m))), tt))),
-          ),
-        ),
-      ),
-    )
-    starts makes
+    starts_cases (λ (y : Firing). creates y f ≡ true → P y) f x (record {
+      transfer = λ s m. absurd (both_ways _ (transfer_none f x.object x.row.row) m);
+      access = λ s m. absurd (both_ways _ (access_none f x.object x.row.row) m);
+      reservation = λ s m. absurd (both_ways _ (reservation_none f x.object x.row.row) m);
+      association = λ s m. at_7 s m;
+      id = λ s m. absurd (true≢false (sym m));
+      map = λ s m. absurd (true≢false (sym m));
+      accessing = λ s m. absurd (true≢false (sym m));
+    }) starts makes
 
 pub room-comes : (x : Firing) (f : Floor) → floor_starts x f ≡ true → creates x f ≡ true → (x.row.row == 4) ≡ false → IsFloor f → suc (length f.carriers) ≤ most_carriers
 room-comes x f starts makes other valid =

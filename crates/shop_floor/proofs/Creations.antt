@@ -5,7 +5,7 @@ use Rattle.std.proofs.lemmas.Bool.{not-true}
 use Rattle.std.proofs.lemmas.Bool.Decides.{nat_tests}
 use Rattle.gem_tables.specs.Table.{firing, row_of}
 use Rattle.gem_tables.specs.declared.firing.Firing.{Firing}
-use Rattle.gem_tables.proofs.Machines.{either_creates}
+use Rattle.shop_floor.proofs.EachTable.{either_creates}
 use Rattle.load_port.specs.declared.port.Arrival.{Arrival}
 use Rattle.load_port.specs.Tables as word
 use Rattle.load_port.specs.Tables.{PortEffect, PortRow, transfer_table, access_table, reservation_table, association_table}
@@ -14,7 +14,7 @@ use Rattle.carrier.specs.declared.carrier.Carrier.{Carrier}
 use Rattle.carrier.specs.Carriers.{carrier_numbered, found_or_created}
 use Rattle.shop_floor.specs.Floor.{Floor}
 use Rattle.shop_floor.specs.Rows.{forgets, owner, without_owner, is_new, arrival_at, arrived, creation_of_arrival, port_does, port_creates, found_does, found_creates}
-use Rattle.shop_floor.specs.Machines.{floor_machines, floor_starts, floor_fired, creation_rows}
+use Rattle.shop_floor.specs.Machines.{floor_starts, floor_fired, creation_rows}
 use Rattle.shop_floor.proofs.Apart.{known_without}
 use Rattle.shop_floor.proofs.Numbers.{numbered_same, created_found, still_found}
 
@@ -97,19 +97,15 @@ found_follows (Some r) port f after same =
 -- whatever fires
 follows : (x : Firing) (f : Floor) → Follows (creation_rows x f) (floor_fired x f)
 follows x f =
-    either_creates Follows f x floor_machines (none_follows f) (
-      found_follows (row_of transfer_table x.row.row) x.object f _ refl,
-      (
-        found_follows (row_of access_table x.row.row) x.object f _ refl,
-        (
-          found_follows (row_of reservation_table x.row.row) x.object f _ refl,
-          (
-            found_follows (row_of association_table x.row.row) x.object f _ refl,
-            (none_follows _, (none_follows _, (none_follows _, tt))),
-          ),
-        ),
-      ),
-    )
+    either_creates Follows f x (none_follows f) (record {
+      transfer = found_follows (row_of transfer_table x.row.row) x.object f _ refl;
+      access = found_follows (row_of access_table x.row.row) x.object f _ refl;
+      reservation = found_follows (row_of reservation_table x.row.row) x.object f _ refl;
+      association = found_follows (row_of association_table x.row.row) x.object f _ refl;
+      id = none_follows _;
+      map = none_follows _;
+      accessing = none_follows _;
+    })
 
 -- the rows that follow a firing are those of a carrier that it created
 pub creations : (f : Floor) (x : Firing) → AllByRecursion (λ (d : Firing). d ≡ firing 8 d.object 1) (creation_rows x f)

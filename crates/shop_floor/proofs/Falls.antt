@@ -1,11 +1,10 @@
 -- Each row that fires by itself lets what is left fall, by more than the rows count of the carrier that it may create.
 use Rattle.std.proofs.Common.{◌≡◌, ℕ, suc, ◌+◌, ◌<◌, ◌≤◌, Bool, true, false, List, [], ◌∷◌, length, Option, Some, None, is_some, slice_get, refl, sym, ap, subst, arith}
 use Rattle.std.proofs.lemmas.Bool.{true≢false, and_parts}
-use Rattle.std.specs.List.{AllByRecursion}
 use Rattle.gem_tables.specs.Machine.{Machine}
 use Rattle.gem_tables.specs.Table.{firing, is_among, after}
 use Rattle.gem_tables.specs.declared.firing.Firing.{Firing}
-use Rattle.gem_tables.proofs.Machines.{least_cases}
+use Rattle.shop_floor.proofs.EachTable.{EachTable, least_cases}
 use Rattle.load_port.specs.declared.port.Port.{Port}
 use Rattle.load_port.specs.declared.port.Arrival.{Arrival}
 use Rattle.load_port.specs.declared.record.Transfer.{Transfer}
@@ -28,7 +27,7 @@ use Rattle.carrier.specs.Carriers as carriers
 use Rattle.carrier.specs.Carriers.{carrier_numbered, found_or_created}
 use Rattle.shop_floor.specs.Floor.{Floor, with_port}
 use Rattle.shop_floor.specs.Rows.{freed, taken_by, owner, without_owner, arrival_at, arrived, arriving}
-use Rattle.shop_floor.specs.Machines.{floor_machines, floor_fired, floor_least, creation_rows}
+use Rattle.shop_floor.specs.Machines.{floor_fired, floor_least, creation_rows}
 use Rattle.shop_floor.specs.Left.{weighs, port_left, carrier_left, floor_left, map_falls}
 use Rattle.shop_floor.proofs.FallLists.{update_twice, ports_fall, carriers_fall, came-left, found-left, forgotten-left}
 use Rattle.shop_floor.proofs.Cases.{ready_at_port, ready_at_carrier}
@@ -173,56 +172,46 @@ never : {P : Type 0} → false ≡ true → P
 never e = absurd (true≢false (sym e))
 
 -- what is left falls where a row is ready by itself, table by table
-pub all_fall : (f : Floor) → AllByRecursion (λ (m : Machine Floor). (object row : ℕ) → m.ready object f ≡ Some row → Falls f (firing m.table object row)) floor_machines
-all_fall f = (
-  (λ port row. ready_at_port transfer_number transfer_table (λ s. s.transfer) (λ to s. record s { transfer = to }) (λ (n r : ℕ). Falls f (firing 4 n r)) f port row
-      (λ place p s. ((λ i _ _. never i), ((λ i _ _. never i), ((λ i _ _. never i), ((λ _ among _. falls_4 f place p s among), ((λ i _ _. never i), tt))))))),
-  (
-    (λ port row r. no_access f port row r),
-    (
-      (λ port row. ready_at_port reservation_number reservation_table (λ s. s.reservation) (λ to s. record s { reservation = to }) (λ (n r : ℕ). Falls f (firing 6 n r)) f port row
-          (λ place p s. ((λ i _ _. never i), ((λ i _ _. never i), ((λ _ among _. falls_6 f place p s among), tt))))),
-      (
-        (λ port row. ready_at_port association_number association_table (λ s. s.association) (λ to s. record s { association = to }) (λ (n r : ℕ). Falls f (firing 7 n r)) f port row
-            (λ place p s. (
-              (λ i _ _. never i),
-              (
-                (λ i _ _. never i),
-                (
-                  (λ _ _ came. falls_7_3 f place p s came),
-                  (
-                    (λ _ _ came. falls_7_4 f place p s (and_parts _ _ came).0),
-                    (
-                      (λ _ _ own. falls_7_5 f place p s (own_some p.carrier p.arrival own)),
-                      ((λ i _ _. never i), ((λ _ among _. falls_7_7 f place p s among), tt)),
-                    ),
-                  ),
-                ),
-              ),
-            ))),
+pub all_fall : (f : Floor) → EachTable (λ (m : Machine Floor). (object row : ℕ) → m.ready object f ≡ Some row → Falls f (firing m.table object row))
+all_fall f = record {
+  transfer = λ port row. ready_at_port transfer_number transfer_table (λ s. s.transfer) (λ to s. record s { transfer = to }) (λ (n r : ℕ). Falls f (firing 4 n r)) f port row
+      (λ place p s. ((λ i _ _. never i), ((λ i _ _. never i), ((λ i _ _. never i), ((λ _ among _. falls_4 f place p s among), ((λ i _ _. never i), tt))))));
+  access = λ port row r. no_access f port row r;
+  reservation = λ port row. ready_at_port reservation_number reservation_table (λ s. s.reservation) (λ to s. record s { reservation = to }) (λ (n r : ℕ). Falls f (firing 6 n r)) f port row
+      (λ place p s. ((λ i _ _. never i), ((λ i _ _. never i), ((λ _ among _. falls_6 f place p s among), tt))));
+  association = λ port row. ready_at_port association_number association_table (λ s. s.association) (λ to s. record s { association = to }) (λ (n r : ℕ). Falls f (firing 7 n r)) f port row
+      (λ place p s. (
+        (λ i _ _. never i),
         (
-          (λ carrier row. ready_at_carrier id_number id_table (λ s. s.id) (λ to s. record s { id = to }) (λ (r : ℕ). Falls f (firing 8 carrier r)) f carrier row
-              (λ c s. (
-                (λ i _ _. never i),
-                (
-                  (λ _ among _. let state = verifies_id c.states.id among in falls_8 f 2 carrier c s (omega (arith, state))),
-                  ((λ _ among _. let state = asks_id c.states.id among in falls_8 f 3 carrier c s (omega (arith, state))), ((λ i _ _. never i), ((λ i _ _. never i), tt))),
-                ),
-              ))),
+          (λ i _ _. never i),
           (
-            (λ carrier row. ready_at_carrier map_number map_table (λ s. s.map) (λ to s. record s { map = to }) (λ (r : ℕ). Falls f (firing 9 carrier r)) f carrier row
-                (λ c s. (
-                  (λ _ among _. let state = verifies_map c.states.map among in falls_9 f 1 200 carrier c s (omega (arith, state)) (omega arith)),
-                  ((λ _ among _. let state = asks_map c.states.map among in falls_9 f 2 1 carrier c s (omega (arith, state)) (omega arith)), ((λ i _ _. never i), ((λ i _ _. never i), tt))),
-                ))),
-            ((λ carrier row r. no_accessing f carrier row r), tt),
+            (λ _ _ came. falls_7_3 f place p s came),
+            (
+              (λ _ _ came. falls_7_4 f place p s (and_parts _ _ came).0),
+              (
+                (λ _ _ own. falls_7_5 f place p s (own_some p.carrier p.arrival own)),
+                ((λ i _ _. never i), ((λ _ among _. falls_7_7 f place p s among), tt)),
+              ),
+            ),
           ),
         ),
-      ),
-    ),
-  ),
-)
+      ));
+  id = λ carrier row. ready_at_carrier id_number id_table (λ s. s.id) (λ to s. record s { id = to }) (λ (r : ℕ). Falls f (firing 8 carrier r)) f carrier row
+      (λ c s. (
+        (λ i _ _. never i),
+        (
+          (λ _ among _. let state = verifies_id c.states.id among in falls_8 f 2 carrier c s (omega (arith, state))),
+          ((λ _ among _. let state = asks_id c.states.id among in falls_8 f 3 carrier c s (omega (arith, state))), ((λ i _ _. never i), ((λ i _ _. never i), tt))),
+        ),
+      ));
+  map = λ carrier row. ready_at_carrier map_number map_table (λ s. s.map) (λ to s. record s { map = to }) (λ (r : ℕ). Falls f (firing 9 carrier r)) f carrier row
+      (λ c s. (
+        (λ _ among _. let state = verifies_map c.states.map among in falls_9 f 1 200 carrier c s (omega (arith, state)) (omega arith)),
+        ((λ _ among _. let state = asks_map c.states.map among in falls_9 f 2 1 carrier c s (omega (arith, state)) (omega arith)), ((λ i _ _. never i), ((λ i _ _. never i), tt))),
+      ));
+  accessing = λ carrier row r. no_accessing f carrier row r;
+}
 
 -- so it falls with the least
 pub least_falls : (f : Floor) (x : Firing) → floor_least f ≡ Some x → floor_left (floor_fired x f) + (map_falls x + length (creation_rows x f)) < floor_left f
-least_falls f x e = least_cases (Falls f) f x floor_machines (all_fall f) e
+least_falls f x e = least_cases (Falls f) f x (all_fall f) e

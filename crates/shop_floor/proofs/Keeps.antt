@@ -6,7 +6,7 @@ use Rattle.std.proofs.lemmas.Slice.Eq.{bytes_eq-Decides}
 use Rattle.gem_tables.specs.Table.{firing, update_at}
 use Rattle.gem_tables.specs.declared.firing.Firing.{Firing}
 use Rattle.gem_tables.proofs.Rows.{looked_for}
-use Rattle.gem_tables.proofs.Machines.{starts_cases}
+use Rattle.shop_floor.proofs.EachTable.{starts_cases}
 use Rattle.load_port.specs.declared.record.Transfer.{Transfer}
 use Rattle.load_port.specs.declared.record.Access.{Access}
 use Rattle.load_port.specs.declared.record.Reservation.{Reservation}
@@ -22,7 +22,7 @@ use Rattle.carrier.specs.Carriers as carriers
 use Rattle.carrier.specs.Carriers.{has_name, carrier_numbered, without}
 use Rattle.shop_floor.specs.Floor.{Floor, opening, with_port, with_carrier}
 use Rattle.shop_floor.specs.Rows.{freed, is_directed, bound_to, binding, owner, forgets, is_own, is_elsewhere, forgetting, without_owner, arrival_at, arrived, arriving, found_does}
-use Rattle.shop_floor.specs.Machines.{floor_machines, floor_starts, floor_fired}
+use Rattle.shop_floor.specs.Machines.{floor_starts, floor_fired}
 use Rattle.shop_floor.specs.Valid.{Belongs, ReadWherePresent, IsTold, IsFloor}
 use Rattle.shop_floor.specs.Requests.{came}
 use Rattle.shop_floor.proofs.Belonging.{all_at, all_ports, ports_length, owner_changed}
@@ -248,26 +248,15 @@ accessing-keeps f carrier row valid = carrier-keeps carrier (carriers.fires_row 
 
 pub row-keeps : (x : Firing) (f : Floor) → floor_starts x f ≡ true → IsFloor f → IsFloor (floor_fired x f)
 row-keeps x f starts valid =
-    starts_cases (λ (y : Firing). IsFloor (floor_fired y f)) f x floor_machines (
-      (λ s. transfer-keeps f x.object x.row.row valid),
-      (
-        (λ s. access-keeps f x.object x.row.row valid),
-        (
-          (λ s. reservation-keeps f x.object x.row.row valid),
-          (
-            (λ s. association-keeps f x.object x.row.row valid s),
-            (
-              (λ s. carrier-keeps x.object (carriers.fires_row 8 x.row.row) f (states_left 8 x.row.row) (reads_id f x.object x.row.row s) valid),
-              (
-                (λ s. carrier-keeps x.object (carriers.fires_row 9 x.row.row) f (states_left 9 x.row.row) (reads_map f x.object x.row.row s) valid),
-                ((λ s. carrier-keeps x.object (carriers.fires_row 10 x.row.row) f (states_left 10 x.row.row) (reads_accessing f x.object x.row.row) valid), tt),
-              ),
-            ),
-          ),
-        ),
-      ),
-    )
-    starts
+    starts_cases (λ (y : Firing). IsFloor (floor_fired y f)) f x (record {
+      transfer = λ s. transfer-keeps f x.object x.row.row valid;
+      access = λ s. access-keeps f x.object x.row.row valid;
+      reservation = λ s. reservation-keeps f x.object x.row.row valid;
+      association = λ s. association-keeps f x.object x.row.row valid s;
+      id = λ s. carrier-keeps x.object (carriers.fires_row 8 x.row.row) f (states_left 8 x.row.row) (reads_id f x.object x.row.row s) valid;
+      map = λ s. carrier-keeps x.object (carriers.fires_row 9 x.row.row) f (states_left 9 x.row.row) (reads_map f x.object x.row.row s) valid;
+      accessing = λ s. carrier-keeps x.object (carriers.fires_row 10 x.row.row) f (states_left 10 x.row.row) (reads_accessing f x.object x.row.row) valid;
+    }) starts
 
 -- ---- what came to a port
 

@@ -15,6 +15,8 @@ pub mod Asked
 pub mod Held
 pub mod Without
 pub mod FallLists
+pub mod EachTable
+pub mod AtRest
 pub mod Shapes
 pub mod Creations
 pub mod Starts

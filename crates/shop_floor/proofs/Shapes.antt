@@ -7,7 +7,8 @@ use Rattle.gem_tables.specs.Table.{is_one_of}
 use Rattle.gem_tables.specs.declared.firing.Firing.{Firing}
 use Rattle.gem_tables.proofs.Rows.{one_of_cases}
 use Rattle.gem_tables.specs.Machine.{first_ready, ready_in}
-use Rattle.gem_tables.proofs.Machines.{least_cases, none_ready}
+use Rattle.gem_tables.proofs.Machines.{none_ready}
+use Rattle.shop_floor.proofs.EachTable.{least_cases}
 use Rattle.load_port.specs.Tables.{access_number as mode_number, access_table}
 use Rattle.carrier.specs.Tables.{access_number, accessing_table}
 use Rattle.shop_floor.specs.Floor.{Floor, numbers_from, number_of}
@@ -35,8 +36,15 @@ no_accessing f carrier row {P} e =
 -- it is one of these tables
 pub least_table : (f : Floor) (x : Firing) → floor_least f ≡ Some x → is_one_of (4 ∷ 6 ∷ 7 ∷ 8 ∷ 9 ∷ []) x.row.table ≡ true
 least_table f x e =
-    least_cases (λ (y : Firing). is_one_of (4 ∷ 6 ∷ 7 ∷ 8 ∷ 9 ∷ []) y.row.table ≡ true) f x floor_machines
-    ((λ o r s. refl), ((λ o r s. no_access f o r s), ((λ o r s. refl), ((λ o r s. refl), ((λ o r s. refl), ((λ o r s. refl), ((λ o r s. no_accessing f o r s), tt))))))) e
+    least_cases (λ (y : Firing). is_one_of (4 ∷ 6 ∷ 7 ∷ 8 ∷ 9 ∷ []) y.row.table ≡ true) f x (record {
+      transfer = λ o r s. refl;
+      access = λ o r s. no_access f o r s;
+      reservation = λ o r s. refl;
+      association = λ o r s. refl;
+      id = λ o r s. refl;
+      map = λ o r s. refl;
+      accessing = λ o r s. no_accessing f o r s;
+    }) e
 
 -- what is true of each of them is true of its table
 pub of_tables : (P : ℕ → Type 0) (f : Floor) (x : Firing) → AllByRecursion P (4 ∷ 6 ∷ 7 ∷ 8 ∷ 9 ∷ []) → floor_least f ≡ Some x → P x.row.table

@@ -10,6 +10,7 @@ use crate::arrow::{Arrow, arrow_where, creation};
 use crate::asked::Asked;
 use crate::gathered::gather;
 use carrier::{Accessing, CarrierRecord, IdState, MapState};
+use gem_tables::Table;
 use std::alloc::{AllocError, Global};
 
 impl Asked for IdState {
@@ -18,7 +19,7 @@ impl Asked for IdState {
     fn ask(&self, row: u8) -> Option<Arrow> {
         let mut end = CarrierRecord::new();
         end.id = *self;
-        let starts = end.fire(8, row);
+        let starts = end.fire(Table::CarrierId.number(), row);
         arrow_where(starts, row, self.number(), end.id.number())
     }
 }
@@ -29,7 +30,7 @@ impl Asked for MapState {
     fn ask(&self, row: u8) -> Option<Arrow> {
         let mut end = CarrierRecord::new();
         end.map = *self;
-        let starts = end.fire(9, row);
+        let starts = end.fire(Table::SlotMap.number(), row);
         arrow_where(starts, row, self.number(), end.map.number())
     }
 }
@@ -40,7 +41,7 @@ impl Asked for Accessing {
     fn ask(&self, row: u8) -> Option<Arrow> {
         let mut end = CarrierRecord::new();
         end.access = *self;
-        let starts = end.fire(10, row);
+        let starts = end.fire(Table::Accessing.number(), row);
         arrow_where(starts, row, self.number(), end.access.number())
     }
 }

@@ -9,6 +9,7 @@ ghost use Rattle.state_arrows.specs.Tables.{transfer_arrows, access_arrows, rese
 use crate::arrow::{Arrow, arrow_where};
 use crate::asked::Asked;
 use crate::gathered::gather;
+use gem_tables::Table;
 use load_port::{Access, Association, PortRecord, Reservation, Transfer};
 use std::alloc::{AllocError, Global};
 
@@ -18,7 +19,7 @@ impl Asked for Transfer {
     fn ask(&self, row: u8) -> Option<Arrow> {
         let mut end = PortRecord::new();
         end.transfer = *self;
-        let starts = end.fire(4, row);
+        let starts = end.fire(Table::Transfer.number(), row);
         arrow_where(starts, row, self.number(), end.transfer.number())
     }
 }
@@ -29,7 +30,7 @@ impl Asked for Access {
     fn ask(&self, row: u8) -> Option<Arrow> {
         let mut end = PortRecord::new();
         end.access = *self;
-        let starts = end.fire(5, row);
+        let starts = end.fire(Table::Access.number(), row);
         arrow_where(starts, row, self.number(), end.access.number())
     }
 }
@@ -40,7 +41,7 @@ impl Asked for Reservation {
     fn ask(&self, row: u8) -> Option<Arrow> {
         let mut end = PortRecord::new();
         end.reservation = *self;
-        let starts = end.fire(6, row);
+        let starts = end.fire(Table::Reservation.number(), row);
         arrow_where(starts, row, self.number(), end.reservation.number())
     }
 }
@@ -51,7 +52,7 @@ impl Asked for Association {
     fn ask(&self, row: u8) -> Option<Arrow> {
         let mut end = PortRecord::new();
         end.association = *self;
-        let starts = end.fire(7, row);
+        let starts = end.fire(Table::Association.number(), row);
         arrow_where(starts, row, self.number(), end.association.number())
     }
 }

@@ -10,6 +10,7 @@ ghost use Rattle.state_arrows.specs.Tables.{location_arrows, transport_arrows, p
 use crate::arrow::{Arrow, arrow_where, creation};
 use crate::asked::Asked;
 use crate::gathered::gather;
+use gem_tables::Table;
 use robot_moves::ModuleState;
 use std::alloc::{AllocError, Global};
 use substrate::{LocationRecord, Occupancy, Processing, SubstrateRecord, Transport};
@@ -30,7 +31,7 @@ impl Asked for Transport {
     fn ask(&self, row: u8) -> Option<Arrow> {
         let mut end = SubstrateRecord::new();
         end.transport = *self;
-        let starts = end.fire(12, row);
+        let starts = end.fire(Table::Transport.number(), row);
         arrow_where(starts, row, self.number(), end.transport.number())
     }
 }
@@ -41,7 +42,7 @@ impl Asked for Processing {
     fn ask(&self, row: u8) -> Option<Arrow> {
         let mut end = SubstrateRecord::new();
         end.processing = *self;
-        let starts = end.fire(13, row);
+        let starts = end.fire(Table::Processing.number(), row);
         arrow_where(starts, row, self.number(), end.processing.number())
     }
 }

@@ -1,4 +1,3 @@
 pub mod Located
 pub mod Due
 pub mod Emptied
-pub mod Listed

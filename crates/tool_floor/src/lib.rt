@@ -7,6 +7,7 @@
 #![tactic(auto)]
 
 mod asking;
+mod changing;
 mod floor;
 mod jobs;
 mod members;

@@ -1,12 +1,13 @@
 //! Whom the robot is best to pick, as the planner asks for it (this tool's profile, moves). In the chambers and at the aligner it is
-//! looked who is there. The substrates in their slots are gone through in the order of their registration, and by what is known
-//! without looking where they are; the first of them whose pick is useful is the one.
+//! looked who is there. Only where nobody is to be picked there, the substrates in their slots are gone through in the order of their
+//! registration, and by what is known without looking where they are; the first of them whose pick is useful is the one.
 
 ghost use Rattle.std.specs.Prelude.{◌≡◌};
 ghost use Rattle.gem_ids.specs.declared.numbers.LocId.TheVariants.{Aligner};
-ghost use Rattle.robot_moves.specs.Moves.{is_free, stage_pick};
+ghost use Rattle.robot_moves.specs.Moves.{is_free, first_among};
+ghost use Rattle.floor_model.specs.Floor.{RiseTo};
 ghost use Rattle.floor_model.specs.Views.{views};
-ghost use Rattle.floor_model.specs.Picks.{told_there, told_in_slot, where_useful, pick_at, better_of, may_be_picked, slot_pick};
+ghost use Rattle.floor_model.specs.Picks.{told_there, told_in_slot, where_useful, pick_at, chamber_picks, aligner_pick, better_of, may_be_picked, slot_pick, first_in_slot};
 
 use crate::floor::ToolFloor;
 use crate::planning::{is_processing, view_of};
@@ -20,6 +21,7 @@ const ALIGNER: ModuleId = ModuleId(2);
 
 impl Picks for ToolFloor {
     fn best_pick(&self, modules: &Modules) -> Option<PlaceView> {
+        self.are_places();
         if let Some(v) = self.chamber_pick(modules) {
             return Some(v);
         }
@@ -95,11 +97,10 @@ impl ToolFloor {
         }
     }
 
-    // The useful pick from a chamber, of the least number of registration.
+    // The best of the useful picks from the chambers.
     fn chamber_pick(&self, modules: &Modules) -> Option<PlaceView>
-        ensures { result ≡ stage_pick 2 (views self.now) modules.now }
+        ensures { result ≡ first_among (chamber_picks (views self.now) modules.now) }
     {
-        self.are_places();
         let mut best = None;
         for index in 2..modules.len() {
             let chamber = LocId::Chamber(index as u8 - 1);
@@ -113,17 +114,16 @@ impl ToolFloor {
 
     // The useful pick from the aligner.
     fn aligner_pick(&self, modules: &Modules) -> Option<PlaceView>
-        ensures { result ≡ stage_pick 1 (views self.now) modules.now }
+        ensures { result ≡ aligner_pick (views self.now) modules.now }
     {
-        self.are_places();
         self.pick_at(ALIGNER, LocId::Aligner, modules)
     }
 
-    // The useful pick from a slot, of the least number of registration.
+    // The first useful pick from a slot, in the order of registration.
     fn slot_pick(&self, modules: &Modules) -> Option<PlaceView>
-        ensures { result ≡ stage_pick 0 (views self.now) modules.now }
+        ensures value { result ≡ first_in_slot self.now modules.now }
+        ensures rise { RiseTo 0 self.now.places.given self.now.substrates }
     {
-        self.are_places();
         let aligner = is_free(self, modules, LocId::Aligner);
         for place in 0..self.substrate_count() {
             if let Some(s) = self.substrate_at(place) {

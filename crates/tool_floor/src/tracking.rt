@@ -1,6 +1,6 @@
 //! The substrates of the carriers that are here.
 
-ghost use Rattle.std.specs.Prelude.{◌≡◌, ◌==◌, ◌&&◌, ◌∷◌, ◌++◌, [], ◌≤◌, length, filter, map, not, option_map, option_copied, slice_get, IfOk, IfErr};
+ghost use Rattle.std.specs.Prelude.{◌≡◌, ◌==◌, ◌&&◌, ◌∷◌, ◌++◌, [], length, filter, map, not, option_map, option_copied, slice_get, IfOk, IfErr};
 ghost use Rattle.std.specs.List.{list_any};
 ghost use Rattle.std.specs.Str.{bytes_eq};
 ghost use Rattle.substrate.specs.Tables.{transport_number};
@@ -11,10 +11,11 @@ ghost use Rattle.floor_model.specs.Substrates.{is_of};
 ghost use Rattle.floor_model.specs.Modules.{aligned};
 ghost use Rattle.floor_model.specs.Jobs.{joined, freed};
 
-use crate::members::can_join;
+use crate::changing::{Aligns, Fires, Frees, IsOf, Joins};
 use floor_model::Substrate;
 use gem_ids::SubstrateId;
 use process_job::ProcessJob;
+use records::Book;
 use shop_floor::ShopFloor;
 use std::alloc::{AllocError, Global};
 use std::marker::Model;
@@ -23,7 +24,7 @@ use substrate::MOST_SUBSTRATES;
 // The substrates of the carriers that are here, in the order of their registration, which contracts see as the list of them.
 #[derive(Drop)]
 pub(crate) struct Substrates {
-    list: Vec<Substrate>,
+    book: Book<Substrate>,
 }
 
 impl Model for Substrates {
@@ -32,7 +33,7 @@ impl Model for Substrates {
 
     ghost Value = { List Substrate };
 
-    ghost view = { λ s. s.list.items };
+    ghost view = { λ s. s.book.kept };
 }
 
 impl Substrates {
@@ -40,29 +41,29 @@ impl Substrates {
     pub(crate) fn new(alloc: Global) -> Result<Substrates, AllocError>
         ensures { IfOk result (λ substrates. substrates ≡ []) }
     {
-        let list = Vec::with_capacity(alloc, MOST_SUBSTRATES)?;
-        Ok(Substrates { list })
+        let book = Book::new(alloc, MOST_SUBSTRATES)?;
+        Ok(Substrates { book })
     }
 
     // All of them.
     pub(crate) fn as_slice(&self) -> &[Substrate]
         ensures { result.now ≡ self.now }
     {
-        self.list.as_slice()
+        self.book.as_slice()
     }
 
     // How many there are.
     pub(crate) fn len(&self) -> usize
         ensures { result ≡ length self.now }
     {
-        self.list.len()
+        self.book.len()
     }
 
     // The substrate of a place, counted from 0.
     pub(crate) fn get(&self, place: usize) -> Option<&Substrate>
         ensures { option_map (λ s. s.now) result ≡ slice_get self.now place }
     {
-        self.list.get(place)
+        self.book.get(place)
     }
 
     // The substrate of a number of registration.
@@ -76,26 +77,24 @@ impl Substrates {
     pub(crate) fn known(&self, number: u64) -> Option<&Substrate>
         ensures { option_copied result ≡ substrate_numbered number self.now }
     {
-        for substrate in self.list.as_slice() {
-            if substrate.number == number {
-                return Some(substrate);
-            }
-        }
-        None
+        self.book.numbered(number)
     }
 
     // Whether one is AT WORK.
     pub(crate) fn is_any_at_work(&self) -> bool
         ensures { result ≡ list_any (λ s. transport_number s.states.transport == 1) self.now }
     {
-        self.list.iter().any(|s| s.states.transport.number() == 1)
+        self.book
+            .as_slice()
+            .iter()
+            .any(|s| s.states.transport.number() == 1)
     }
 
     // Whether one of this name NEEDS PROCESSING.
     pub(crate) fn needs_processing(&self, sub: SubstrateId) -> bool
         ensures { result ≡ list_any (λ s. is_needing s.states.processing && bytes_eq sub s.sub) self.now }
     {
-        self.list.iter().any(|s| s.states.processing.is_needing()
+        self.book.as_slice().iter().any(|s| s.states.processing.is_needing()
             && sub.as_bytes() == s.sub.as_bytes())
     }
 
@@ -104,88 +103,41 @@ impl Substrates {
         ensures ok { IfOk result (λ _. self.new ≡ self.old ++ new ∷ []) }
         ensures err { IfErr result (λ _. self.new ≡ self.old) }
     {
-        self.list.push(new)?;
-        Ok(())
+        self.book.push_growing(new)
     }
 
     // A row of table 12 or 13 fires at the substrate of a number.
     pub(crate) fn fire(&mut self, number: u64, table: u8, row: u8)
         ensures { self.new ≡ change_numbered number (substrate_moves table row) self.old }
     {
-        for place in 0..self.list.len() {
-            if self.list[place].number == number {
-                self.list[place].states.fire(table, row);
-                return;
-            }
-        }
+        self.book.change_numbered(number, &Fires { table, row });
     }
 
     // The substrate of a number is aligned.
     pub(crate) fn align(&mut self, number: u64)
         ensures { self.new ≡ change_numbered number aligned self.old }
     {
-        for place in 0..self.list.len() {
-            if self.list[place].number == number {
-                self.list[place].aligned = true;
-                return;
-            }
-        }
+        self.book.change_numbered(number, &Aligns);
     }
 
     // Those that a process job names become its members, where they can.
     pub(crate) fn join(&mut self, job: &ProcessJob, shop: &ShopFloor)
         ensures { self.new ≡ map (joined job.now shop.now) self.old }
     {
-        join_all(job, shop, &mut self.list);
+        self.book.change_each(&Joins { job, shop });
     }
 
     // The members of the process job of a number are in no job.
     pub(crate) fn free(&mut self, number: u64)
         ensures { self.new ≡ map (freed number) self.old }
     {
-        free_all(number, &mut self.list);
+        self.book.change_each(&Frees { job: number });
     }
 
     // The substrates of the carrier of a number are forgotten.
     pub(crate) fn forget(&mut self, carrier: u64)
         ensures { self.new ≡ filter (λ s. not (is_of carrier s)) self.old }
     {
-        self.list.retain(|s| s.carrier != carrier);
-    }
-}
-
-// One becomes a member of a process job, where it can.
-fn join(job: &ProcessJob, shop: &ShopFloor, substrate: &mut Substrate)
-    ensures { substrate.new ≡ joined job.now shop.now substrate.old }
-{
-    if can_join(job, shop, substrate) {
-        substrate.job = job.number;
-    }
-}
-
-// One is in no job, where it was a member of the process job of a number.
-fn free(number: u64, substrate: &mut Substrate)
-    ensures { substrate.new ≡ freed number substrate.old }
-{
-    if substrate.job == number {
-        substrate.job = 0;
-    }
-}
-
-// Each of these becomes a member of a process job, where it can.
-fn join_all(job: &ProcessJob, shop: &ShopFloor, list: &mut [Substrate])
-    ensures { list.new ≡ map (joined job.now shop.now) list.old }
-{
-    for substrate in list {
-        join(job, shop, substrate);
-    }
-}
-
-// Each of these that was a member of the process job of a number is in no job.
-fn free_all(number: u64, list: &mut [Substrate])
-    ensures { list.new ≡ map (freed number) list.old }
-{
-    for substrate in list {
-        free(number, substrate);
+        self.book.forget_where(&IsOf { carrier });
     }
 }

@@ -58,25 +58,8 @@ configured-refused : (why : Cause) (config config' : SourceView) → Refuses why
 configured-refused (cause.Config rule key) config config' h = h
 configured-refused cause.ReadFault config config' h = inr refl
 configured-refused cause.NoMemory config config' h = inr refl
-configured-refused cause.Done config config' h = absurd h
-configured-refused (cause.Words place) config config' h = absurd h
-configured-refused cause.WriteFault config config' h = absurd h
-configured-refused (cause.Full entries bytes number) config config' h = absurd h
-configured-refused (cause.Line number place) config config' h = absurd h
-configured-refused cause.Door config config' h = absurd h
+configured-refused _ config config' h = absurd h
 
 -- a run that took no configuration
 pub ran_refused : (why : Cause) (config config' input : SourceView) (held : Option (List ℕ)) → Refuses why config config' → (c : Config) × Configured c why config config' [] × RanUnder c why input input held held [] [] × ReadFirst c config config' input input
 ran_refused why config config' input held h = (worked_config, configured-refused why config config' h, ran-nothing why input held (Fed-refused worked_config why config config' input h) (Shown-refused worked_config why config config' held h), inr refl)
-
--- what was read of a configuration that was taken, by how the run under it ended
-pub configured-read : (c : Config) (why : Cause) (config config' : SourceView) (history : List Entry) → IsRead config config' c → ((place : ℕ) → why ≢ cause.Words place) → ((rule : ℕ) (key : List ℕ) → why ≢ cause.Config rule key) → why ≢ cause.Door → Configured c why config config' history
-configured-read c cause.Done config config' history read words rules door = read
-configured-read c cause.ReadFault config config' history read words rules door = inl read
-configured-read c cause.WriteFault config config' history read words rules door = read
-configured-read c cause.NoMemory config config' history read words rules door = inl read
-configured-read c (cause.Full entries bytes number) config config' history read words rules door = read
-configured-read c (cause.Line number place) config config' history read words rules door = read
-configured-read c (cause.Words place) config config' history read words rules door = absurd (words place refl)
-configured-read c (cause.Config rule key) config config' history read words rules door = absurd (rules rule key refl)
-configured-read c cause.Door config config' history read words rules door = absurd (door refl)

@@ -1,10 +1,8 @@
 //! A transcript, line by line: each is taken as soon as it is whole, and what it gives is written before the next is read.
 
-ghost use Rattle.std.specs.Prelude.{◌<◌, length, IfSome};
-
-use memchr::memchr;
 use outside::{Sink, Source, front, read_front, write_all};
-use std::alloc::{AllocError, Global};
+use std::alloc::Global;
+use text_lines::{JoinFault, first_line, join_line};
 use tool_texts::{LINE_BYTES, LineFault};
 
 // So many bytes are read at once at most.
@@ -85,12 +83,10 @@ impl Gathered {
 
     // Bytes of the line come. A line that is too long is refused at once.
     fn push(&mut self, part: &[u8]) -> Result<(), TranscriptFault> {
-        if part.len() > LINE_BYTES.saturating_sub(self.line.len()) {
-            return Err(TranscriptFault::Line(self.number, 600_000));
-        }
-        match self.line.extend_from_slice(part) {
+        match join_line(&mut self.line, part, LINE_BYTES) {
             Ok(()) => Ok(()),
-            Err(AllocError) => Err(TranscriptFault::NoMemory),
+            Err(JoinFault::Long) => Err(TranscriptFault::Line(self.number, LINE_BYTES as u64)),
+            Err(JoinFault::NoMemory) => Err(TranscriptFault::NoMemory),
         }
     }
 
@@ -119,7 +115,7 @@ impl Gathered {
         out: &mut K,
     ) -> Result<(), TranscriptFault> {
         let mut left = piece;
-        while let Some((line, rest)) = split_line(left) {
+        while let Some((line, rest)) = first_line(left) {
             self.push(line)?;
             self.end_line(alloc, taker, out)?;
             left = rest;
@@ -138,27 +134,6 @@ impl Gathered {
             return Ok(());
         }
         self.end_line(alloc, taker, out)
-    }
-}
-
-// The place of the first line feed.
-fn line_end(bytes: &[u8]) -> Option<usize>
-    ensures within { IfSome result (λ end. end < length bytes.now) }
-{
-    memchr(b'\n', bytes)
-}
-
-// The first line, without its line feed, and what is behind that.
-fn split_line(bytes: &[u8]) -> Option<(&[u8], &[u8])>
-    ensures shorter { IfSome result (λ r. length r.1.now < length bytes.now) }
-{
-    let Some(end) = line_end(bytes) else {
-        return None;
-    };
-    let (line, behind) = bytes.split_at(end);
-    match behind {
-        [_feed, rest @ ..] => Some((line, rest)),
-        [] => None,
     }
 }
 

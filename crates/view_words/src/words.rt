@@ -1,11 +1,42 @@
 //! The commands.
-ghost use Rattle.std.specs.Prelude.{◌≡◌, ◌↔◌, [], ◌∷◌, Ok, Some, None, IfOk, IfErr, IfSome, IsOk};
-ghost use Rattle.program_words.specs.Commands.{is_file_word, place_of};
+ghost use Rattle.std.specs.Prelude.{◌≡◌, ◌↔◌, Ok, Some, None, IfOk, IfErr, IsOk};
+ghost use Rattle.program_words.specs.Commands.{place_of};
 ghost use Rattle.view_words.specs.declared.words.ViewWords.{ViewWords};
-ghost use Rattle.view_words.specs.Commands.{SpellsNamed, SpellsWith, Spells, misfit_named, misfit_with, misfit_transcript, misfit_picture, misfit};
+ghost use Rattle.view_words.specs.Commands.{SpellsNamed, Spells, misfit_named, misfit_transcript, misfit_picture, misfit};
 
 use gem_ids::Text80;
-use program_words::WordsFault;
+use program_words::{Row, WordsFault, file_behind, is_file, split_word};
+
+// `words [CONFIG]`
+const WORDS: Row = Row {
+    name: "words",
+    words: "[CONFIG]",
+    does: "Reads a transcript from standard input and prints it in words",
+};
+
+// `pcap [CONFIG]`
+const PCAP: Row = Row {
+    name: "pcap",
+    words: "[CONFIG]",
+    does: "Reads a transcript from standard input and writes a capture file",
+};
+
+// `chart CONFIG`
+const CHART: Row = Row {
+    name: "chart",
+    words: "CONFIG",
+    does: "Reads the lines of a run from standard input and draws what happened to each wafer",
+};
+
+// `states TABLE`
+const STATES: Row = Row {
+    name: "states",
+    words: "TABLE",
+    does: "Draws the states and the rows of a table",
+};
+
+/// The table of the commands, in the order in which the usage text has them.
+pub(crate) const COMMANDS: &[Row] = &[WORDS, PCAP, CHART, STATES];
 
 /// A command of the program `gem300_view`. A configuration is the name of a file, and may be left out.
 #[derive(Clone, Copy)]
@@ -18,25 +49,6 @@ pub enum ViewWords {
     Chart(Text80),
     /// `states TABLE`: the states of a table are drawn.
     States(Text80),
-}
-
-// Whether a word can name a file: it isn't empty, and doesn't begin with a minus.
-fn is_file(word: &Text80) -> bool
-    ensures { result ≡ is_file_word word.now }
-{
-    let bytes = word.as_bytes();
-    !bytes.is_empty() && !bytes.starts_with(b"-".as_slice())
-}
-
-// The first word and those behind it.
-fn split_word(words: &[Text80]) -> Option<(Text80, &[Text80])>
-    ensures some { IfSome result (λ r. words.now ≡ r.0 ∷ r.1.now) }
-    ensures none { result ≡ None → words.now ≡ [] }
-{
-    match words {
-        [] => None,
-        [word, words @ ..] => Some((*word, words)),
-    }
 }
 
 // The file behind this name, where the words are both, or none where they are the name alone; else the place of the first that doesn't
@@ -63,28 +75,16 @@ fn named(name: &[u8], words: &[Text80]) -> Result<Option<Text80>, u64>
     }
 }
 
-// The word behind this name, where the words are both; else the place of the first that doesn't fit.
-fn with_word(name: &[u8], words: &[Text80]) -> Result<Text80, u64>
-    ensures ok { IfOk result (λ word. SpellsWith name.now words.now word) }
-    ensures place { IfErr result (λ place. misfit_with name.now words.now ≡ Some place) }
-{
-    match named(name, words) {
-        Ok(Some(word)) => Ok(word),
-        Ok(None) => Err(1),
-        Err(place) => Err(place),
-    }
-}
-
 // The command on a transcript, or the place of the first word that fits none.
 fn transcript_command(words: &[Text80]) -> Result<ViewWords, u64>
     ensures command { IfOk result (λ w. Spells words.now w) }
     ensures place { IfErr result (λ place. misfit_transcript words.now ≡ Some place) }
 {
-    let place = match named(b"words", words) {
+    let place = match named(WORDS.name.as_bytes(), words) {
         Ok(config) => return Ok(ViewWords::Words(config)),
         Err(place) => place,
     };
-    match named(b"pcap", words) {
+    match named(PCAP.name.as_bytes(), words) {
         Ok(config) => Ok(ViewWords::Pcap(config)),
         Err(farther) => Err(place.max(farther)),
     }
@@ -95,11 +95,11 @@ fn picture_command(words: &[Text80]) -> Result<ViewWords, u64>
     ensures command { IfOk result (λ w. Spells words.now w) }
     ensures place { IfErr result (λ place. misfit_picture words.now ≡ Some place) }
 {
-    let place = match with_word(b"chart", words) {
+    let place = match file_behind(CHART.name.as_bytes(), words) {
         Ok(config) => return Ok(ViewWords::Chart(config)),
         Err(place) => place,
     };
-    match with_word(b"states", words) {
+    match file_behind(STATES.name.as_bytes(), words) {
         Ok(table) => Ok(ViewWords::States(table)),
         Err(farther) => Err(place.max(farther)),
     }

@@ -34,8 +34,9 @@ use Rattle.place_laws.specs.Sound.{Base}
 use Rattle.floor_laws.proofs.IssueHeld.{found_so}
 use Rattle.floor_laws.proofs.JobSight.{in_slot_from}
 use Rattle.floor_laws.proofs.JobNamed.{named_from}
-use Rattle.work_laws.proofs.Lists.{mapped_none, where_none, none_of}
+use Rattle.work_laws.proofs.Lists.{where_none, none_of}
 use Rattle.work_laws.proofs.Standing.{within, shown, none_held, place_named, target_there, useful_there}
+use Rattle.shop_floor.proofs.AtRest.{mapped_none}
 use Rattle.place_laws.proofs.QuietPorts.{no_row}
 
 -- ---- table 13
@@ -67,7 +68,8 @@ none_planned f e m least most = none_of (λ (n : ℕ). module_move n (views f) f
 module _ (f : ToolFloor) (b : Base f) (v : Valid (picture f)) (many : length f.modules ≡ 2 + f.places.chambers)
     (idles : (m : ℕ) → 1 ≤ m → m ≤ length f.modules → is_idle (module_at m f.modules) ≡ true)
     (none : (m : ℕ) → 1 ≤ m → m ≤ length f.modules → planned m f ≡ None)
-    (rests : (n : ℕ) (s : Substrate) → substrate_numbered n f.substrates ≡ Some s → first_itself processing_number (λ w. substrate_wants w s f) processing_table s.states.processing ≡ None) where
+    (rests : (n : ℕ) (s : Substrate) → substrate_numbered n f.substrates ≡ Some s → first_itself processing_number (λ w. substrate_wants w s f) processing_table s.states.processing ≡ None)
+    (unprocessed : (n : ℕ) → ((picture f).processing n == 1) ≡ false) where
   -- ---- the robot
 
   no_arm_move : arm_move (views f) f.modules (holder Arm (views f)) ≡ None
@@ -162,4 +164,4 @@ module _ (f : ToolFloor) (b : Base f) (v : Valid (picture f)) (many : length f.m
 
   -- the floor by numbers is at rest
   pub at_rest : AtRest (picture f)
-  at_rest = record { placed = no_place; picked = no_pick; aligned = no_align; processed = no_process; skipped = no_skip }
+  at_rest = record { placed = no_place; picked = no_pick; aligned = no_align; unprocessed = unprocessed; processed = no_process; skipped = no_skip }

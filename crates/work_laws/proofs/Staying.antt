@@ -4,7 +4,7 @@ use Rattle.std.specs.List.{AllByRecursion}
 use Rattle.std.proofs.lemmas.List.{length-replicate}
 use Rattle.gem_tables.specs.Table.{row_of}
 use Rattle.gem_tables.specs.declared.firing.Firing.{Firing}
-use Rattle.gem_tables.proofs.Machines.{either_creates}
+use Rattle.floor_model.proofs.EachTable.{either_creates}
 use Rattle.gem_ids.specs.declared.numbers.LocId.{LocId}
 use Rattle.gem_ids.specs.declared.numbers.LocId.TheVariants.{Slot, Arm}
 use Rattle.gem_ids.specs.declared.numbers.PortNo.{PortNo}
@@ -44,7 +44,7 @@ use Rattle.tool_jobs.specs.Rows.{process_does, found_does as jobs_behind, proces
 use Rattle.floor_model.specs.declared.tracked.Substrate.{Substrate}
 use Rattle.floor_model.specs.Floor.{ToolFloor, opening, with_shop, with_jobs, with_module, fetched, substrate_numbered}
 use Rattle.floor_model.specs.Jobs.{job_does, found_job_does}
-use Rattle.floor_model.specs.Machines.{taken_along, registered_by, with_moved, floor_machines, floor_fired}
+use Rattle.floor_model.specs.Machines.{taken_along, registered_by, with_moved, floor_fired}
 use Rattle.floor_model.specs.Modules.{command, issued, goes, transferred, open_task, aligned_by, module_behind, move_does, found_move}
 use Rattle.floor_model.specs.Substrates.{can_register, first_substrate, registers_at, registers_slot, registers_slots, registers_at_port, registers_found, reaches_verified, without_carrier, substrate_does, found_does}
 use Rattle.floor_model.specs.Views.{planned}
@@ -239,46 +239,21 @@ move_found (Some r) number plan f = move_done r.does number plan f
 
 row_stays : (x : Firing) (f : ToolFloor) → Stays f (floor_fired x f)
 row_stays x f =
-    either_creates (λ (fs : List Firing) (h : ToolFloor). Stays f h) f x floor_machines (itself f) (
-      with_others f f (shop.transfer_machine.fired x.row.row x.object f.shop) (itself f),
-      (
-        with_others f f (shop.access_machine.fired x.row.row x.object f.shop) (itself f),
-        (
-          with_others f f (shop.reservation_machine.fired x.row.row x.object f.shop) (itself f),
-          (
-            with_others f (taken_along x.row.row x.object f) (shop.association_machine.fired x.row.row x.object f.shop) (along x.row.row x.object f),
-            (
-              with_others f f (shop.id_machine.fired x.row.row x.object f.shop) (itself f),
-              (
-                with_others f (registered_by x.row.row x.object f) (shop.map_machine.fired x.row.row x.object f.shop) (all_registered x.row.row x.object f),
-                (
-                  with_others f f (shop.accessing_machine.fired x.row.row x.object f.shop) (itself f),
-                  (
-                    record { modules = refl; chambers = refl; recipes = refl; jobs = λ rs all. all },
-                    (
-                      states_moved f f 12 x.row.row x.object (itself f),
-                      (
-                        states_moved f (found_does (row_of processing_table x.row.row) (substrate_numbered x.object f.substrates) f) 13 x.row.row x.object (lost_found (row_of processing_table x.row.row) (substrate_numbered x.object f.substrates) f),
-                        (
-                          with_these f (found_job_does (row_of job_table x.row.row) (job_numbered x.object f.jobs.process.kept) f) (process_fired x.row.row x.object f.jobs) (members_found (row_of job_table x.row.row) (job_numbered x.object f.jobs.process.kept) f) (jobs_fired x.row.row x.object f.jobs),
-                          (
-                            with_these f f (control_fired x.row.row x.object f.jobs) (itself f) (record { recipes = refl; jobs = λ rs all. all }),
-                            (
-                              module_changed f (found_move (row_of move_table x.row.row) x.object (planned x.object f) f) x.object (module_behind x.row.row) (move_found (row_of move_table x.row.row) x.object (planned x.object f) f),
-                              tt,
-                            ),
-                          ),
-                        ),
-                      ),
-                    ),
-                  ),
-                ),
-              ),
-            ),
-          ),
-        ),
-      ),
-    )
+    either_creates (λ (fs : List Firing) (h : ToolFloor). Stays f h) f x (itself f) (record {
+      transfer = with_others f f (shop.transfer_machine.fired x.row.row x.object f.shop) (itself f);
+      access = with_others f f (shop.access_machine.fired x.row.row x.object f.shop) (itself f);
+      reservation = with_others f f (shop.reservation_machine.fired x.row.row x.object f.shop) (itself f);
+      association = with_others f (taken_along x.row.row x.object f) (shop.association_machine.fired x.row.row x.object f.shop) (along x.row.row x.object f);
+      id = with_others f f (shop.id_machine.fired x.row.row x.object f.shop) (itself f);
+      map = with_others f (registered_by x.row.row x.object f) (shop.map_machine.fired x.row.row x.object f.shop) (all_registered x.row.row x.object f);
+      accessing = with_others f f (shop.accessing_machine.fired x.row.row x.object f.shop) (itself f);
+      location = record { modules = refl; chambers = refl; recipes = refl; jobs = λ rs all. all };
+      transport = states_moved f f 12 x.row.row x.object (itself f);
+      processing = states_moved f (found_does (row_of processing_table x.row.row) (substrate_numbered x.object f.substrates) f) 13 x.row.row x.object (lost_found (row_of processing_table x.row.row) (substrate_numbered x.object f.substrates) f);
+      process_job = with_these f (found_job_does (row_of job_table x.row.row) (job_numbered x.object f.jobs.process.kept) f) (process_fired x.row.row x.object f.jobs) (members_found (row_of job_table x.row.row) (job_numbered x.object f.jobs.process.kept) f) (jobs_fired x.row.row x.object f.jobs);
+      control_job = with_these f f (control_fired x.row.row x.object f.jobs) (itself f) (record { recipes = refl; jobs = λ rs all. all });
+      move = module_changed f (found_move (row_of move_table x.row.row) x.object (planned x.object f) f) x.object (module_behind x.row.row) (move_found (row_of move_table x.row.row) x.object (planned x.object f) f);
+    })
 
 -- ---- what the tool has
 

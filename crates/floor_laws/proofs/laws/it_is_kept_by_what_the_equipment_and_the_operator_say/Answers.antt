@@ -1,4 +1,4 @@
-use Rattle.floor_laws.proofs.EndBut.{fetched_sound}
+use Rattle.floor_laws.proofs.EndProcess.{fetched_sound}
 use Rattle.floor_laws.proofs.FloorInputs.{done_sound, failed_sound, down_sound, lost_rows_sound}
 use Rattle.floor_laws.proofs.laws.it_is_kept_by_what_the_equipment_and_the_operator_say.Goals as goal
 

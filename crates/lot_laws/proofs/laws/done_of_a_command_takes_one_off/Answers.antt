@@ -12,4 +12,4 @@ pub returns-clause-closed_as_much : goal.returns-clause-closed_as_much
 returns-clause-closed_as_much c = λ number counted f m d fetched h e here. (closed-executes number counted f h e m d fetched here).1
 
 pub returns-clause-processed : goal.returns-clause-processed
-returns-clause-processed c = λ number counted f n row d but e one starts at member. processed-falls number counted f e n but row d one starts at member
+returns-clause-processed c = λ number counted f n row d h unnamed e one starts at member. processed-falls number counted f e n h unnamed row d one starts at member

@@ -1,17 +1,14 @@
-use Rattle.owed_laws.proofs.Agreeing.{agree-owed, agree-number, agree-unaligned, agree-in_process, agree-undisturbed}
+use Rattle.owed_laws.proofs.Agreeing.{agree-owed, agree-commands, agree-unaligned, agree-undisturbed}
 use Rattle.owed_laws.proofs.laws.what_is_owed_is_said_of_what_is_kept.Goals as goal
 
 pub returns-clause-owed : goal.returns-clause-owed
 returns-clause-owed c = λ counted g h a. agree-owed g h a counted
 
-pub returns-clause-number : goal.returns-clause-number
-returns-clause-number c = λ counted g h a. agree-number g h a counted
+pub returns-clause-commands : goal.returns-clause-commands
+returns-clause-commands c = λ counted g h a. agree-commands g h a counted
 
 pub returns-clause-undisturbed : goal.returns-clause-undisturbed
 returns-clause-undisturbed c = λ counted g h a v u. agree-undisturbed g h a counted v u
 
 pub returns-clause-unaligned : goal.returns-clause-unaligned
 returns-clause-unaligned c = agree-unaligned
-
-pub returns-clause-in_process : goal.returns-clause-in_process
-returns-clause-in_process c = agree-in_process

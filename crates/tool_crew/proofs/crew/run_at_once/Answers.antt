@@ -14,4 +14,5 @@ pub returns-clause-worked : goal.returns-clause-worked
 returns-clause-worked g c =
     let h = c.join_mut-count.new.g in
     let m : h.9.now ≡ c.modules-1.given.0 = search rules in
-    rw (sym m) c.join_mut-count.ensures.1.met.1.1.1.1.1.1
+    let others = c.join_mut-count.ensures.1.met.1 in
+    rw (sym m) others.1.1.1.1.1

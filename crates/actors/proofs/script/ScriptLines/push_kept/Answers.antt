@@ -1,5 +1,5 @@
 use Rattle.std.proofs.Common.{sym}
-use Rattle.actors.proofs.ScriptLineEnds.{kept_rest}
+use Rattle.actors.proofs.ScriptReading.{kept_rest}
 use Rattle.actors.proofs.script.ScriptLines.push_kept.Goals as goal
 
 pub returns-in-Ok-clause-kept : goal.returns-in-Ok-clause-kept

@@ -5,8 +5,8 @@ use Rattle.feeding.specs.Standing.{Stands, Takes}
 use Rattle.feeding.proofs.reader.Reader.take_piece.Given as goal
 
 -- the lines before what is left are taken
-abbrev pub invariant-loop-end : goal.invariant-loop-end
-invariant-loop-end g l =
+abbrev pub invariant-loop-line : goal.invariant-loop-line
+invariant-loop-line g l =
     let see = seen g.K.Sink.held g.K.Sink.faults g.K.Sink.refusals in
     record {
       whole : (g.C.Recorder.view l.self.feeder.core).is_whole ≡ true;
@@ -14,5 +14,5 @@ invariant-loop-end g l =
       taken : (front : List ℕ) × (l.piece ≡ front ++ l.left) × ((text : List ℕ) → Stands text (reader_seen g.C.Recorder.view l.fn.self) → Takes text front (reader_seen g.C.Recorder.view l.fn.self) (reader_seen g.C.Recorder.view l.self) (see l.fn.out) (see l.out) (Ok tt));
     }
 
-abbrev pub decreases-loop-end : goal.decreases-loop-end
-decreases-loop-end g l = length l.left
+abbrev pub decreases-loop-line : goal.decreases-loop-line
+decreases-loop-line g l = length l.left

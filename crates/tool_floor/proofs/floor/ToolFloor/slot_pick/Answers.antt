@@ -1,16 +1,16 @@
-use Rattle.std.proofs.Common.{◌≤◌, length, sym, ◌∙◌, arith}
+use Rattle.std.proofs.Common.{◌≤◌, length, refl, sym, ◌∙◌, arith}
 use Rattle.floor_model.specs.declared.tracked.Substrate.{Substrate}
 use Rattle.floor_model.specs.Picks.{slot_pick}
 use Rattle.floor_model.proofs.Scans.{shown}
-use Rattle.floor_model.proofs.SlotPicks.{given_here, given_next, given_past, given_end, slots_are}
+use Rattle.floor_model.proofs.SlotPicks.{given_here, given_next, given_past, given_end}
 use Rattle.tool_floor.proofs.floor.ToolFloor.slot_pick.Goals.{in-Some+in_default-slot_pick_of, in_default}
 use Rattle.tool_floor.proofs.floor.ToolFloor.slot_pick.Goals as goal
 
 pub loop-place-init : goal.loop-place-init
-loop-place-init c = slots_are c.args.self.now c.are_places.ensures c.args.modules.now c.args.self.now.places.given c.substrate_count-place-end.ensures.rise
+loop-place-init c = refl
 
-pub returns-in-Some-slot_pick_of : goal.returns-in-Some-slot_pick_of
-returns-in-Some-slot_pick_of c =
+pub returns-in-Some-slot_pick_of-clause-value : goal.returns-in-Some-slot_pick_of-clause-value
+returns-in-Some-slot_pick_of-clause-value c =
     sym (given_here (λ (s : Substrate). slot_pick s c.args.self.now c.args.modules.now) c.args.self.now.substrates c.loop-place.place c.in-Some.s.now c.in-Some-slot_pick_of.v (shown c.substrate_at.ensures c.in-Some.is) (sym c.slot_pick_of.ensures ∙ c.in-Some-slot_pick_of.is))
     ∙ c.loop-place.invariant
 
@@ -24,8 +24,8 @@ loop-place-preserved c = elim c.match-substrate_at.branch [
       ∙ c.loop-place.invariant
 ]
 
-pub returns : goal.returns
-returns c =
+pub returns-clause-value : goal.returns-clause-value
+returns-clause-value c =
     let past : length c.args.self.now.substrates ≤ c.loop-place.place = omega (arith, c.loop-place-test.false, c.substrate_count-place-end.ensures.count) in
     sym (given_end (λ (s : Substrate). slot_pick s c.args.self.now c.args.modules.now) c.args.self.now.substrates c.loop-place.place past)
     ∙ c.loop-place.invariant

@@ -1,5 +1,0 @@
-use Rattle.calm_laws.proofs.Completing.{run-completes_by_rows}
-use Rattle.calm_laws.proofs.laws.a_control_job_completes_where_no_row_disturbs_it.Goals as goal
-
-pub returns : goal.returns
-returns c = run-completes_by_rows

@@ -1,0 +1,5 @@
+mod Changes
+mod Compaction
+mod Gates
+mod Prefixes
+mod Pushes

@@ -1,0 +1,10 @@
+pub mod Alone
+pub mod Fields
+pub mod Given
+pub mod Heads
+pub mod Moments
+pub mod Pieces
+pub mod Refusing
+pub mod Replayed
+pub mod Spelled
+pub mod Unreading

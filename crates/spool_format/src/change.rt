@@ -1,0 +1,10 @@
+//! A change.
+
+use spool::Note;
+
+/// A change of the notes: a push of a note, by the rule of a full spool, which is overwritten or not; or the oldest note leaves.
+#[derive(Drop)]
+pub enum Change {
+    Push(bool, Note),
+    Take,
+}

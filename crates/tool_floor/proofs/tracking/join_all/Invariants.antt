@@ -1,7 +1,0 @@
-use Rattle.std.proofs.Common.{◌≡◌, ◌++◌, map, take, drop}
-use Rattle.floor_model.specs.Jobs.{joined}
-use Rattle.tool_floor.proofs.tracking.join_all.Given as goal
-
-abbrev pub invariant-loop-substrate : goal.invariant-loop-substrate
-invariant-loop-substrate l =
-    l.substrate-items ≡ map (joined l.job l.shop) (take l.substrate-index l.initial.substrate-items) ++ drop l.substrate-index l.initial.substrate-items

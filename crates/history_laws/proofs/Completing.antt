@@ -56,8 +56,7 @@ use Rattle.gem_model.proofs.Each.{each_kept}
 use Rattle.history_laws.proofs.FloorFacts.{fact_acting, fact_kept, fact_automatic, fact_creation, listed_is, done_quiet}
 use Rattle.history_laws.proofs.Past.{IsPast, past_each}
 use Rattle.gem_model.proofs.Paths.{path_keeps, path_at, along_at, control_least}
-use Rattle.history_laws.proofs.Placed.{Rested}
-use Rattle.history_laws.proofs.Ordering.{order_fact, order_first}
+use Rattle.history_laws.proofs.Ordering.{Rested, order_fact, order_first}
 use Rattle.history_laws.proofs.Carrying.{Undone, Carried, carried_changes}
 use Rattle.gem_model.proofs.Resting.{AtRest, opening-rests, settled-rests}
 use Rattle.gem_model.proofs.Settling.{settled_keeps, settled_along, settles_so}

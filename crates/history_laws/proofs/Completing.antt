@@ -8,7 +8,6 @@ use Rattle.gem_tables.specs.Table.{firing, is_one_of}
 use Rattle.gem_tables.specs.declared.firing.Firing.{Firing}
 use Rattle.load_port.specs.Ports.{most_ports}
 use Rattle.robot_moves.specs.declared.module.Module.{Module}
-use Rattle.robot_moves.specs.declared.module.Module.TheVariants.{Down}
 use Rattle.robot_moves.specs.Modules.{module_at, is_open as has_open}
 use Rattle.control_job.specs.Jobs.{job_numbered as control_numbered, is_open, numbers_of, AreRising, fires_at, fires_row}
 use Rattle.control_job.specs.Tables.{states_number}

@@ -5,7 +5,7 @@ use Rattle.gem_ids.specs.declared.numbers.LocId.{LocId}
 use Rattle.gem_ids.specs.declared.numbers.LocId.TheVariants.{Slot, Aligner, Arm, Chamber}
 use Rattle.substrate.specs.Locations.{is_work_place}
 use Rattle.substrate.specs.Places.{ArePlaces}
-use Rattle.robot_moves.specs.Moves.{stage_of, may_leave, is_useful, best_pick}
+use Rattle.robot_moves.specs.Moves.{stage_of, is_useful, best_pick}
 use Rattle.robot_moves.specs.Best.{GoesFirst}
 use Rattle.robot_moves.specs.declared.module.Module.{Module}
 use Rattle.robot_moves.specs.declared.view.PlaceView.{PlaceView}

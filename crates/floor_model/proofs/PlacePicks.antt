@@ -1,10 +1,10 @@
 -- The picks from the aligner and from the chambers, by who is there: those that are useful, and no others; and which of the chambers is
 -- the last that has one.
 use Rattle.std.specs.Option.{option_or}
-use Rattle.std.proofs.Common.{◌≡◌, ℕ, zero, suc, ◌-◌, ◌==◌, ◌<◌, ◌≤◌, nat_lt, nat_le, Bool, true, false, true≢false, cond, ◌&&◌, List, [], ◌∷◌, length, Option, Some, None, slice_get, refl, sym, ap, subst, ◌∙◌, arith}
+use Rattle.std.proofs.Common.{◌≡◌, ℕ, zero, suc, ◌-◌, ◌<◌, ◌≤◌, nat_lt, nat_le, Bool, true, false, true≢false, cond, List, length, Option, Some, None, slice_get, refl, sym, ap, subst, ◌∙◌, arith}
 use Rattle.std.proofs.lemmas.Bool.Decides.{nat_tests}
 use Rattle.gem_ids.specs.declared.numbers.LocId.{LocId}
-use Rattle.gem_ids.specs.declared.numbers.LocId.TheVariants.{Slot, Aligner, Arm, Chamber}
+use Rattle.gem_ids.specs.declared.numbers.LocId.TheVariants.{Aligner, Chamber}
 use Rattle.substrate.specs.Locations.{is_location}
 use Rattle.substrate.specs.Places.{ArePlaces}
 use Rattle.records.proofs.Truth.{and_true}

@@ -4,12 +4,9 @@ use Rattle.std.specs.List.{list_any}
 use Rattle.std.specs.Str.{bytes_eq}
 use Rattle.toml.specs.Data.{Data, Items, no_items, item, Members, as_table, get_member}
 use Rattle.tool_tasks.specs.Chambers.{chamber_set, chambers_to}
+use Rattle.tool_tasks.specs.Recipes.{most_recipes}
 use Rattle.tool_tasks.specs.declared.recipes.Recipe.{Recipe}
 use Rattle.configuration.specs.Values.{text_of, numbers_behind, filled_list, has_other}
-
--- the greatest number of recipes (this tool's profile, limits)
-abbrev pub most_recipes : ℕ
-most_recipes = 32
 
 -- a list of distinct numbers of the plant's chambers that isn't empty, as the set of them
 abbrev pub chambers_in : ℕ → Data → Option ℕ
@@ -19,11 +16,11 @@ chambers_in chambers d = option_map chamber_set (option_and_then (numbers_behind
 abbrev pub recipe_keys : List (List ℕ)
 recipe_keys = codes "name" ∷ (codes "chambers" ∷ [])
 
--- a recipe of a table: a name of 1 to 64 bytes and its chambers, and no other key
+-- a recipe of a table: a name of 1 to 64 bytes and its chambers, which are a route of one step, and no other key
 abbrev pub recipe_in : ℕ → Members → Option Recipe
 recipe_in chambers ms =
     if has_other recipe_keys ms then None else
-    option_and_then (λ name. option_map (λ cs. record { name = name; chambers = cs }) (option_and_then (chambers_in chambers) (get_member (codes "chambers") ms)))
+    option_and_then (λ name. option_map (λ cs. record { name = name; route = cs ∷ [] }) (option_and_then (chambers_in chambers) (get_member (codes "chambers") ms)))
     (option_and_then (text_of 64) (get_member (codes "name") ms))
 
 -- a recipe of this name is among these
@@ -44,6 +41,6 @@ recipes_behind chambers found (item d ds) =
 abbrev pub recipes_of : ℕ → Data → Option (List Recipe)
 recipes_of chambers d = option_and_then (recipes_behind chambers []) (filled_list d)
 
--- the recipes where none are given: one, `R1`, for all chambers
+-- the recipes where none are given: one, `R1`, a route of one step with all chambers
 abbrev pub recipe_for_all : ℕ → List Recipe
-recipe_for_all chambers = record { name = codes "R1"; chambers = chambers_to chambers } ∷ []
+recipe_for_all chambers = record { name = codes "R1"; route = chambers_to chambers ∷ [] } ∷ []

@@ -1,7 +1,7 @@
 //! The reader of a table, row by row.
 ghost use Rattle.std.specs.Prelude.{◌≡◌, ℕ, ◌≤◌, Bool, true, List, Option, length, IsTrue, Some};
 ghost use Rattle.toml.specs.View.{table_view};
-ghost use Rattle.tool_events.specs.Configs.{are_usable, IsConfig};
+ghost use Rattle.tool_events.specs.Configs.{are_usable, have_one_step, IsConfig};
 ghost use Rattle.configuration.specs.Values.{is_plain};
 ghost use Rattle.configuration.specs.Recipes.{recipe_for_all};
 ghost use Rattle.configuration.specs.Rules.{number, text, truth, communication, control, streams, recipes, communication_words, control_words, said_at, taken, Noted, broken_after, AreGiven, rules_for};
@@ -146,7 +146,7 @@ impl Reader<'_> {
     }
 
     // A list of recipes for so many chambers.
-    #[tactic(auto, using(crate::proofs::Usable::taken_usable))]
+    #[tactic(auto, using(crate::proofs::Usable::taken_usable, crate::proofs::Usable::taken_one_step))]
     fn recipes(
         &self,
         broken: &mut Broken,
@@ -158,8 +158,10 @@ impl Reader<'_> {
         requires key { IsTrue (is_plain 80 key.now) }
         requires chambers { chambers ≤ 2 }
         requires usable { are_usable chambers default ≡ true }
+        requires one_step { have_one_step default ≡ true }
         ensures value { result ≡ taken default (said_at (recipes chambers) key.now (table_view self.now.table.now)) }
         ensures usable { are_usable chambers result ≡ true }
+        ensures one_step { have_one_step result ≡ true }
         ensures broken { Noted broken.old broken.new rule key.now (said_at (recipes chambers) key.now (table_view self.now.table.now)) }
     {
         let said = match value_at(self.table, key) {

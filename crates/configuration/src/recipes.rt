@@ -1,7 +1,7 @@
 //! The reader of recipes.
 ghost use Rattle.std.specs.Prelude.{◌≡◌, ◌≤◌, true, [], Some, None, option_map, if◌then◌else◌};
 ghost use Rattle.tool_tasks.specs.Chambers.{chamber_set};
-ghost use Rattle.tool_events.specs.Configs.{are_usable};
+ghost use Rattle.tool_events.specs.Configs.{are_usable, have_one_step};
 ghost use Rattle.configuration.specs.Values.{numbers_behind};
 ghost use Rattle.toml.specs.Data.{get_member};
 ghost use Rattle.toml.specs.View.{view, table_view, items_view};
@@ -11,7 +11,7 @@ use crate::keys::has_other_key;
 use crate::values::{filled_list, number_in, text_of};
 use gem_ids::Text80;
 use toml::{Table, Value};
-use tool_tasks::{Recipe, RecipeChambers, Recipes, has_chamber};
+use tool_tasks::{Recipe, RecipeChambers, Recipes, Route, has_chamber};
 
 // The greatest number of recipes.
 const MOST_RECIPES: usize = 32;
@@ -60,7 +60,10 @@ fn recipe_in(table: &Table, chambers: u8) -> Option<Recipe>
     }
     let name = text_of(value_at(table, "name")?, 64)?;
     let chambers = chambers_in(value_at(table, "chambers")?, chambers)?;
-    Some(Recipe { name, chambers })
+    Some(Recipe {
+        name,
+        route: Route::of(chambers),
+    })
 }
 
 // Whether one of these recipes has the name.
@@ -109,17 +112,18 @@ pub(crate) fn recipes_of(value: &Value, chambers: u8) -> Option<Recipes>
     recipes_in(filled_list(value)?, chambers)
 }
 
-// One recipe, `R1`, for all chambers.
+// One recipe, `R1`, a route of one step with all chambers.
 #[tactic(auto, using(crate::proofs::Usable::default_usable))]
 pub(crate) fn recipe_for_all(chambers: u8) -> Recipes
     requires { chambers ≤ 2 }
     ensures value { result ≡ recipe_for_all chambers }
     ensures usable { 1 ≤ chambers → are_usable chambers result ≡ true }
+    ensures one_step { have_one_step result ≡ true }
 {
     let mut recipes = Recipes::none();
     recipes.push(Recipe {
         name: Text80::read(b"R1".as_slice()).unwrap_or(Text80::empty()),
-        chambers: RecipeChambers::to(chambers),
+        route: Route::of(RecipeChambers::to(chambers)),
     });
     recipes
 }

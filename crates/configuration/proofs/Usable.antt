@@ -79,10 +79,10 @@ usable_by chambers ns few c =
 -- ---- recipes
 
 -- what is taken is usable, and has one step
-fits : ℕ → Recipe → Bool
+abbrev fits : ℕ → Recipe → Bool
 fits chambers r = is_usable chambers r && (length r.route == 1)
 
-all_fit : ℕ → List Recipe → Bool
+abbrev all_fit : ℕ → List Recipe → Bool
 all_fit chambers rs = list_all (fits chambers) rs
 
 -- a route of one step that has a chamber of the tool
@@ -175,7 +175,7 @@ list_usable chambers d rs few e = of (filled_list d) e where
 pub default_usable : (chambers : ℕ) → 1 ≤ chambers → are_usable chambers (recipe_for_all chambers) ≡ true
 default_usable chambers some =
     let has : has_one_of chambers (chambers_to chambers) ≡ true =
-        any_listed (λ n. nat_le n chambers) (chambers_to chambers) 1 (omega arith) (omega arith) (grind (arith, bit_at_ones chambers 0 some)) (grind (arith, nat_tests, some)) in
+    any_listed (λ n. nat_le n chambers) (chambers_to chambers) 1 (omega arith) (omega arith) (grind (arith, bit_at_ones chambers 0 some)) (grind (arith, nat_tests, some)) in
     (fit_both chambers (recipe_for_all chambers) (and_from (fits chambers (record { name = codes "R1"; route = chambers_to chambers ∷ [] })) true (one_fits chambers (codes "R1") (chambers_to chambers) has) refl)).0
 
 -- ---- what is taken

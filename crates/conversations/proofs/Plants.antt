@@ -13,7 +13,7 @@ use Rattle.tool_tasks.proofs.Sets.{any_listed}
 pub all_usable : (chambers : ℕ) (name : List ℕ) → 1 ≤ chambers → are_usable chambers (record { name = name; route = chambers_to chambers ∷ [] } ∷ []) ≡ true
 all_usable chambers name some =
     let has : has_one_of chambers (chambers_to chambers) ≡ true =
-        any_listed (λ n. nat_le n chambers) (chambers_to chambers) 1 (omega arith) (omega arith) (grind (arith, bit_at_ones chambers 0 some)) (grind (arith, nat_tests, some)) in
+    any_listed (λ n. nat_le n chambers) (chambers_to chambers) 1 (omega arith) (omega arith) (grind (arith, bit_at_ones chambers 0 some)) (grind (arith, nat_tests, some)) in
     and_from (has_one_of chambers (chambers_to chambers) && true) true (and_from (has_one_of chambers (chambers_to chambers)) true has refl) refl
 
 pub is_config : (c : Config) (chambers ports : ℕ) (recipes : List Recipe) → IsConfig c → 1 ≤ chambers → chambers ≤ last_chamber → 1 ≤ ports → ports ≤ 4 → are_usable chambers recipes ≡ true → have_one_step recipes ≡ true

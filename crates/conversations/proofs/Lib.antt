@@ -1,1 +1,1 @@
-pub mod Plants
+pub mod OfPlants

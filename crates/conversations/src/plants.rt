@@ -9,7 +9,6 @@ use tool_events::Config;
 use tool_tasks::{Recipe, RecipeChambers, Recipes, Route};
 
 // The one recipe R1 of a tool with so many chambers, of one step that each of them can do.
-#[tactic(auto, using(crate::proofs::Plants::all_usable))]
 fn recipes_for(chambers: u8) -> Recipes
     requires first { 1 ≤ chambers }
     requires last { chambers ≤ last_chamber }
@@ -26,7 +25,7 @@ fn recipes_for(chambers: u8) -> Recipes
 
 /// A configuration with so many chambers and ports in place of its own, and one recipe, R1, of one step that each of the chambers can
 /// do. None exactly where no tool has so many.
-#[tactic(auto, using(crate::proofs::Plants::is_config))]
+#[tactic(auto, using(crate::proofs::OfPlants::is_config))]
 pub fn with_plant(config: &Config, chambers: u8, ports: u8) -> Option<Config>
     requires { IsConfig config.now }
     ensures { IfSome result IsConfig }

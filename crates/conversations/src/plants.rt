@@ -1,6 +1,6 @@
 //! Configurations of plants with more chambers and ports than a text can say: under version 1 of its keys a text says one or two.
 
-ghost use Rattle.std.specs.Prelude.{◌≡◌, ◌≤◌, ◌∷◌, [], true, IfSome};
+ghost use Rattle.std.specs.Prelude.{◌≡◌, ◌≤◌, true, IfSome};
 ghost use Rattle.tool_events.specs.Configs.{are_usable, have_one_step, IsConfig};
 ghost use Rattle.tool_tasks.specs.Chambers.{last_chamber};
 

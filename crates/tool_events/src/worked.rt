@@ -1,7 +1,6 @@
 //! Worked recipes, computed from the definitions. The function is a statement about them, and has no code.
 
 ghost use Rattle.std.specs.Prelude.{◌≡◌, true, false, [], ◌∷◌};
-ghost use Rattle.tool_tasks.specs.Chambers.{chamber_set};
 ghost use Rattle.tool_events.specs.Configs.{have_one_step, is_usable};
 ghost use Rattle.tool_events.specs.Worked.{by_route};
 

@@ -1,4 +1,4 @@
--- The recipe of each substrate in a process job has a chamber of the tool.
+-- The first step of the recipe of each substrate in a process job has a chamber of the tool.
 use Rattle.std.proofs.Common.{◌≡◌, ◌≤◌, ◌==◌, ℕ, nat_le, Bool, true, false, ◌&&◌, ◌||◌, if◌then◌else◌, List, [], ◌∷◌, ◌++◌, length, Option, Some, None, refl, arith}
 use Rattle.std.specs.List.{list_any, list_all}
 use Rattle.std.specs.Str.{bytes_eq}

@@ -43,17 +43,17 @@ step_reaches count set e =
     let chosen = is_chosen set w.0 w.1 in
     (w.0, w.1, among_numbers 1 count w.0 chosen.least (omega (arith, most)))
 
--- so does the first step of a route that has steps, each with a chamber of the tool
-route_reaches : (count : ℕ) (route : List ℕ) → nat_le 1 (length route) ≡ true → list_all (has_one_of count) route ≡ true → Reaches count (chamber_list (step_at 0 route))
-route_reaches count [] some each = absurd (cc)
-route_reaches count (step ∷ steps) some each = step_reaches count step (and_parts (has_one_of count step) (list_all (has_one_of count) steps) each).0
+-- the first step of a route that has steps, each with a chamber of the tool, has one
+first_has : (count : ℕ) (route : List ℕ) → nat_le 1 (length route) ≡ true → list_all (has_one_of count) route ≡ true → has_one_of count (step_at 0 route) ≡ true
+first_has count [] some each = absurd (cc)
+first_has count (step ∷ steps) some each = (and_parts (has_one_of count step) (list_all (has_one_of count) steps) each).0
 
--- and that of a usable recipe
+-- that of a usable recipe reaches one
 usable_reaches : (count : ℕ) (r : Recipe) → is_usable count r ≡ true → Reaches count (chambers_in (Some r))
 usable_reaches count r e =
     let some = and_parts (nat_le 1 (length r.route)) (nat_le (length r.route) most_steps && (rises r.route && list_all (has_one_of count) r.route)) e in
     let few = and_parts (nat_le (length r.route) most_steps) (rises r.route && list_all (has_one_of count) r.route) some.1 in
-    route_reaches count r.route some.0 (and_parts (rises r.route) (list_all (has_one_of count) r.route) few.1).1
+    step_reaches count (step_at 0 r.route) (first_has count r.route some.0 (and_parts (rises r.route) (list_all (has_one_of count) r.route) few.1).1)
 
 -- one of its name is found among the recipes, and is usable
 recipe_reaches : (count : ℕ) (name : List ℕ) (rs : List Recipe) → is_recipe name rs ≡ true → are_usable count rs ≡ true → Reaches count (chambers_in (recipe_named name rs))

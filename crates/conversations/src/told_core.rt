@@ -27,13 +27,15 @@ impl ToldCore {
         }
     }
 
-    /// A core of a tool with so many chambers and ports, each of which can process by its recipe R1. None where no tool has so many, or
-    /// there is no memory.
+    /// A core of a tool with so many chambers, each of which can do the one step of its recipe R1, and so many ports. None where no tool
+    /// has so many, or there is no memory.
     pub fn with_plant(alloc: Global, chambers: u8, ports: u8) -> Option<ToldCore> {
-        match read_config(alloc, b"communication = \"communicating\"\n".as_slice()) {
-            Ok(config) => ToldCore::open(alloc, &with_plant(&config, chambers, ports)?),
-            Err(_) => None,
-        }
+        let text = b"communication = \"communicating\"\n";
+        let Ok(config) = read_config(alloc, text.as_slice()) else {
+            return None;
+        };
+        let config = with_plant(&config, chambers, ports)?;
+        ToldCore::open(alloc, &config)
     }
 
     fn open(alloc: Global, config: &Config) -> Option<ToldCore>

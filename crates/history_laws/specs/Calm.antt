@@ -29,11 +29,9 @@ use Rattle.process_job.specs.declared.job.ProcessJob.{ProcessJob}
 use Rattle.tool_jobs.specs.Jobs.{Jobs}
 use Rattle.floor_model.specs.Floor.{ToolFloor}
 use Rattle.floor_model.specs.Signals.{done_rows, closing_rows}
-use Rattle.place_laws.specs.Picture.{picture}
-use Rattle.owed_laws.specs.Owed.{commands_of}
 use Rattle.queue_laws.specs.Started.{is_left_in}
 use Rattle.queue_laws.specs.Steers.{AreAutomatic, disturbs_control}
-use Rattle.lot_laws.specs.Lot.{counted_of, IsMaterialHere}
+use Rattle.lot_laws.specs.Lot.{counted_of, total, IsMaterialHere}
 use Rattle.gem_model.specs.State.{State, is_up, is_session_up, without_session, raised}
 use Rattle.gem_model.specs.Machines.{row_starts}
 use Rattle.gem_model.specs.Fire.{advanced}
@@ -191,15 +189,15 @@ IsCalmByRows number counted g (entry ∷ entries) =
 -- ---- completion
 
 -- Where a control job starts in an entry, each process job that is left in it starting by itself and having its material here, and
--- no row that an input behind fires disturbs it, it has completed behind so many entries exactly where eight Dones for each counted
--- substrate ended commands in them.
+-- no row that an input behind fires disturbs it, it has completed behind so many entries exactly where as many Dones ended commands in
+-- them as it takes commands for the counted substrates.
 abbrev pub CompletesByRows : State → Entry → List Entry → Type 0
 CompletesByRows g entry entries =
     (number : ℕ) (f : State) (some rest : List Entry) → StartsAt number g entry f → AreAutomatic number f.floor.jobs
     → IsMaterialHere number f.floor → entries ≡ some ++ rest
     → IsCalmByRows number (counted_of number f.floor) (entry_after g entry) some
     → has_completed (control_of number (after_all (entry_after g entry) some))
-    ≡ nat_le (commands_of (counted_of number f.floor) (picture f.floor)) (dones (entry_after g entry) some)
+    ≡ nat_le (total number f.floor) (dones (entry_after g entry) some)
 
 -- so it is at each entry of a history
 abbrev pub EachCompletesByRows : State → List Entry → Type 0

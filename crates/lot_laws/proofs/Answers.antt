@@ -60,10 +60,10 @@ module _ (number : ℕ) (counted : ℕ → Bool) (f : ToolFloor) (e : Executes n
     all = e.all;
     substrates = stand;
   } where
-    by : (n : ℕ) (x : Substrate) → (is_done n (picture f) ≡ true) ⊎ (IsInJob x f ⊎ Waits number x f) → (is_done n (picture (record f { places = p; modules = ms })) ≡ true) ⊎ (IsInJob x (record f { places = p; modules = ms }) ⊎ Waits number x (record f { places = p; modules = ms }))
+    by : (n : ℕ) (x : Substrate) → (is_done n (picture f) ≡ true) ⊎ (IsInJob number x f ⊎ Waits number x f) → (is_done n (picture (record f { places = p; modules = ms })) ≡ true) ⊎ (IsInJob number x (record f { places = p; modules = ms }) ⊎ Waits number x (record f { places = p; modules = ms }))
     by n x (inl is) = inl (done n is)
     by n x (inr (inl its)) = inr (inl its)
-    by n x (inr (inr w)) = inr (inr (record { at = w.at; job = w.job; kept = w.kept; left = w.left; queued = w.queued; joins = w.joins }))
+    by n x (inr (inr w)) = inr (inr (record { at = w.at; job = w.job; kept = w.kept; left = w.left; first = w.first; queued = w.queued; joins = w.joins }))
 
 module _ (number : ℕ) (counted : ℕ → Bool) (f : ToolFloor) (sound : Sound f) (e : Executes number counted f) (m : ℕ) (c : ToolCommand) (fetched : Bool) (here : module_at m f.modules ≡ Some (Busy c fetched)) where
   -- it executes on, and one less is owed
@@ -107,7 +107,7 @@ module _ (number : ℕ) (counted : ℕ → Bool) (f : ToolFloor) (sound : Sound 
   aligned-executes : (n : ℕ) (s : Substrate) → substrate_numbered n f.substrates ≡ Some s → Valid (aligned_by_numbers n m (picture f)) → OneLess counted (picture f) (aligned_by_numbers n m (picture f))
       → Falls (with_module m (module_behind 6) (record f { substrates = change_numbered n aligned f.substrates }))
   aligned-executes n s found valid less = (
-    change-executes number counted f e n aligned (λ x. refl) (λ x. refl) (change_module m (module_behind 6) f.modules) agrees.jobs.is_member (λ k kept is. done k ∙ is) (λ x there w. w.joins) (λ j x can. can) (agree-undisturbed _ _ agrees counted valid less.0).substrates,
+    change-executes number counted f e n aligned (λ x. refl) (λ x. refl) (λ x. (refl, refl)) (change_module m (module_behind 6) f.modules) agrees.jobs.is_member (λ k kept is. done k ∙ is) (λ x there w. w.joins) (λ j x can. can) (agree-undisturbed _ _ agrees counted valid less.0).substrates,
     ap (λ (k : ℕ). k + 1) (agree-owed _ _ agrees counted) ∙ less.1,
   ) where
     agrees : Agree (aligned_by_numbers n m (picture f)) (picture (with_module m (module_behind 6) (record f { substrates = change_numbered n aligned f.substrates })))

@@ -49,6 +49,8 @@ use Rattle.queue_laws.proofs.Steering.{Found, found_executing, left_owned, owned
 use Rattle.lot_laws.specs.Lot.{IsInJob, Waits, Executes}
 use Rattle.lot_laws.proofs.Naming.{any_numbered}
 use Rattle.lot_laws.proofs.Standing.{on_base, member_left}
+use Rattle.lot_laws.proofs.AtWork.{at_work_of}
+use Rattle.lot_laws.proofs.Steering.{row_names}
 use Rattle.lot_laws.proofs.Going.{controls-execute}
 
 -- ---- at rest
@@ -115,7 +117,8 @@ module _ (number : ℕ) (counted : ℕ → Bool) (f : ToolFloor) (h : Sound f) (
   pub control-executes : (row m : ℕ) (d : ControlJob) → control_numbered m f.jobs.control.jobs ≡ Some d → control_starts row (Some d) (is_first_here m f) f.jobs ≡ true
       → disturbs_control number m row ≡ false → is_completion number m row ≡ false → Executes number counted (floor_fired (firing 15 m row) f)
   control-executes row m d at starts calm on =
-      controls-execute number counted f (fired_at m row f.jobs.control) (λ job. control_left number f.jobs t s e.steers row m (is_first_here m f) d at starts calm on job) t s e
+      controls-execute number counted f (fired_at m row f.jobs.control) (λ job. control_left number f.jobs t s e.steers row m (is_first_here m f) d at starts calm on job)
+      (row_names number f.jobs f.jobs t s (at_work_of number counted f e).steers row m) t s e
       (control-steers number f.jobs t s e.steers row m (is_first_here m f) d at starts calm on)
 
   -- ---- it completes
@@ -129,7 +132,7 @@ module _ (number : ℕ) (counted : ℕ → Bool) (f : ToolFloor) (h : Sound f) (
     never : (job : List ℕ) → is_left_in number job f.jobs ≡ true → ⊥
     never job left = none_owned job mine.job (subst (λ (o : Option ControlJob). has_none_left o ≡ true) mine.at none) (left_owned number job f.jobs mine.job mine.at left)
 
-    by : (n : ℕ) (x : Substrate) → substrate_numbered n f.substrates ≡ Some x → (is_done n (picture f) ≡ true) ⊎ (IsInJob x f ⊎ Waits number x f) → is_done n (picture f) ≡ true
+    by : (n : ℕ) (x : Substrate) → substrate_numbered n f.substrates ≡ Some x → (is_done n (picture f) ≡ true) ⊎ (IsInJob number x f ⊎ Waits number x f) → is_done n (picture f) ≡ true
     by n x found (inl done) = done
     by n x found (inr (inl its)) = absurd (never its.0.id (member_left number counted f (on_base f h.base) e n x its.0 found its.1))
     by n x found (inr (inr w)) = absurd (never w.job.id w.left)

@@ -90,5 +90,5 @@ module _ (number : ℕ) (counted : ℕ → Bool) (f : ToolFloor) (b : Base f) (e
 
       pub worked-executes : Executes number counted (with_moved 13 row n f)
       worked-executes =
-          change-executes number counted f e n (substrate_moves 13 row) (λ x. refl) (λ x. refl) f.modules agrees.jobs.is_member done_on (λ x found w. absurd (waits_free n x found w member)) takes
+          change-executes number counted f e n (substrate_moves 13 row) (λ x. refl) (λ x. refl) (λ x. (refl, refl)) f.modules agrees.jobs.is_member done_on (λ x found w. absurd (waits_free n x found w member)) takes
           (agree-undisturbed (worked n (state_behind row s) (picture f)) (picture (with_moved 13 row n f)) agrees counted valid stands_then).substrates

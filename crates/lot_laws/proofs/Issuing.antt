@@ -121,10 +121,10 @@ module _ (number : ℕ) (counted : ℕ → Bool) (f : ToolFloor) (h : Sound f) (
         agree-owed (issued m (task_of move.task f.places) (picture f)) (picture (given_to m (Some move) f)) agrees counted ∙ stays.1,
       )
     where
-      by : (n : ℕ) (x : Substrate) → (is_done n (picture f) ≡ true) ⊎ (IsInJob x f ⊎ Waits number x f) → (is_done n (picture f) ≡ true) ⊎ (IsInJob x (given_to m (Some move) f) ⊎ Waits number x (given_to m (Some move) f))
+      by : (n : ℕ) (x : Substrate) → (is_done n (picture f) ≡ true) ⊎ (IsInJob number x f ⊎ Waits number x f) → (is_done n (picture f) ≡ true) ⊎ (IsInJob number x (given_to m (Some move) f) ⊎ Waits number x (given_to m (Some move) f))
       by n x (inl done) = inl done
       by n x (inr (inl its)) = inr (inl its)
-      by n x (inr (inr w)) = inr (inr (record { at = w.at; job = w.job; kept = w.kept; left = w.left; queued = w.queued; joins = w.joins }))
+      by n x (inr (inr w)) = inr (inr (record { at = w.at; job = w.job; kept = w.kept; left = w.left; first = w.first; queued = w.queued; joins = w.joins }))
 
   -- rows 1 to 4 of table 16
   pub issue-executes : (m row : ℕ) → is_one_of (1 ∷ 2 ∷ 3 ∷ 4 ∷ []) row ≡ true → Executes number counted (floor_fired (firing 16 m row) f) × (owed_to counted (picture (floor_fired (firing 16 m row) f)) ≡ owed_to counted (picture f))

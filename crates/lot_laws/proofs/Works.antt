@@ -42,7 +42,7 @@ modules-work number counted f e ms back = (
   refl,
   refl,
 ) where
-  by : (n : ℕ) (x : Substrate) → (is_done n (picture f) ≡ true) ⊎ (IsInJob x f ⊎ Waits number x f) → (is_done n (picture f) ≡ true) ⊎ (IsInJob x (record f { modules = ms }) ⊎ Waits number x (record f { modules = ms }))
+  by : (n : ℕ) (x : Substrate) → (is_done n (picture f) ≡ true) ⊎ (IsInJob number x f ⊎ Waits number x f) → (is_done n (picture f) ≡ true) ⊎ (IsInJob number x (record f { modules = ms }) ⊎ Waits number x (record f { modules = ms }))
   by n x (inl done) = inl done
   by n x (inr (inl its)) = inr (inl its)
-  by n x (inr (inr w)) = inr (inr (record { at = w.at; job = w.job; kept = w.kept; left = w.left; queued = w.queued; joins = w.joins }))
+  by n x (inr (inr w)) = inr (inr (record { at = w.at; job = w.job; kept = w.kept; left = w.left; first = w.first; queued = w.queued; joins = w.joins }))

@@ -21,8 +21,8 @@ module _ (g h : Floor) (a : Agree g h) where
   agree-owed counted =
       ap (λ (ns : List ℕ). sum_of (owed h) (filter counted ns)) a.substrates ∙ sum_same counted (owed h) (owed g) g.substrates (λ n kept _. owed_same n kept)
 
-  pub agree-commands : (counted : ℕ → Bool) → commands_of counted h ≡ commands_of counted g
-  agree-commands counted = ap (λ (ns : List ℕ). commands_of counted (record g { substrates = ns })) a.substrates
+  pub agree-commands : (steps : ℕ → ℕ) (counted : ℕ → Bool) → commands_of steps counted h ≡ commands_of steps counted g
+  agree-commands steps counted = ap (λ (ns : List ℕ). commands_of steps counted (record g { substrates = ns })) a.substrates
 
   pub agree-unaligned : Valid g → AreUnaligned g → AreUnaligned h
   agree-unaligned v u n p k at f =

@@ -1,5 +1,5 @@
 -- As a control job starts nothing is disturbed, and a Done is owed for each command of each counted substrate; at the end none is owed.
-use Rattle.std.proofs.Common.{◌≡◌, ℕ, Bool, true, false, not, ◌&&◌, Option, Some, None, refl, ap, ◌∙◌, arith}
+use Rattle.std.proofs.Common.{◌≡◌, ℕ, Bool, true, false, not, ◌&&◌, Option, Some, None, refl, sym, ap, ◌∙◌, arith}
 use Rattle.std.proofs.lemmas.Bool.{false_from_ne_true}
 use Rattle.gem_tables.specs.Table.{is_one_of}
 use Rattle.floor_moves.specs.Floor.{Loc, slot, aligner, arm, chamber, named, Floor, own, is_outside, is_finished, is_done}
@@ -49,13 +49,13 @@ module _ (counted : ℕ → Bool) (g : Floor) (v : Valid g) (b : Begins counted 
       by (Some arm) e = absurd (let w = inside n in let z = ap is_outside e in cc)
       by (Some (chamber d)) e = absurd (let w = inside n in let z = ap is_outside e in cc)
 
-  each_owed : (n : ℕ) → is_one_of g.substrates n ≡ true → counted n ≡ true → owed g n ≡ commands_for g n
+  each_owed : (n : ℕ) → is_one_of g.substrates n ≡ true → counted n ≡ true → owed g n ≡ commands_for 1
   each_owed n kept is =
       ap (λ (p : Option Loc). owed_at p (is_finished (g.processing n)) (g.is_aligned n)) (begins_inside n kept is)
       ∙ ap (λ (f : Bool). owed_at (Some (own n g)) f (g.is_aligned n)) (unfinished n kept is)
 
-  pub begins_owed : owed_to counted g ≡ commands_of counted g
-  begins_owed = sum_same counted (owed g) (commands_for g) g.substrates each_owed
+  pub begins_owed : (steps : ℕ → ℕ) → ((n : ℕ) → is_one_of g.substrates n ≡ true → counted n ≡ true → steps n ≡ 1) → owed_to counted g ≡ commands_of steps counted g
+  begins_owed steps one = sum_same counted (owed g) (λ n. commands_for (steps n)) g.substrates (λ n kept is. each_owed n kept is ∙ ap commands_for (sym (one n kept is)))
 
 -- ---- the end
 

@@ -24,15 +24,11 @@ owed g n = owed_at (g.place_of n) (is_finished (g.processing n)) (g.is_aligned n
 abbrev pub owed_to : (ℕ → Bool) → Floor → ℕ
 owed_to counted g = sum_of (owed g) (filter counted g.substrates)
 
--- the processing steps of the recipe of a substrate: one
-abbrev pub steps_of : Floor → ℕ → ℕ
-steps_of g n = 1
+-- The commands that take a substrate of so many processing steps from its slot and back: it goes to the aligner, is aligned, and goes
+-- back from where it is processed, which are five with their Picks and Places; and a step takes three. That is eight, of one step.
+abbrev pub commands_for : ℕ → ℕ
+commands_for steps = 5 + 3 * steps
 
--- The commands that take a substrate from its slot and back: it goes to the aligner, is aligned, and goes back from where it is
--- processed, which are five with their Picks and Places; and a step takes three. That is eight, of one step.
-abbrev pub commands_for : Floor → ℕ → ℕ
-commands_for g n = 5 + 3 * steps_of g n
-
--- the commands for all those that are kept and counted
-abbrev pub commands_of : (ℕ → Bool) → Floor → ℕ
-commands_of counted g = sum_of (commands_for g) (filter counted g.substrates)
+-- the commands for all those that are kept and counted, of which each takes so many steps
+abbrev pub commands_of : (ℕ → ℕ) → (ℕ → Bool) → Floor → ℕ
+commands_of steps counted g = sum_of (λ n. commands_for (steps n)) (filter counted g.substrates)

@@ -11,12 +11,13 @@ ghost use Rattle.owed_laws.specs.Owed.{owed_to, commands_of};
 ghost use Rattle.owed_laws.specs.Undisturbed.{AreUnaligned, JobsStand, Undisturbed, Begins};
 
 /// As a control job starts nothing is disturbed, each counted substrate is in its slot, and a Done is owed for each command that
-/// takes a counted substrate from its slot through its steps and back.
+/// takes a counted substrate from its slot through its steps and back, where that is one step.
 pub fn each_command_is_owed_as_it_starts()
     ensures undisturbed { (counted : ℕ → Bool) (g : Floor) → Valid g → AreUnaligned g → Begins counted g → Undisturbed counted g }
     ensures inside { (counted : ℕ → Bool) (g : Floor) (n : ℕ) → Valid g → Begins counted g
         → is_one_of g.substrates n ≡ true → counted n ≡ true → g.place_of n ≡ Some (own n g) }
-    ensures owed { (counted : ℕ → Bool) (g : Floor) → Valid g → Begins counted g → owed_to counted g ≡ commands_of counted g }
+    ensures owed { (steps : ℕ → ℕ) (counted : ℕ → Bool) (g : Floor) → Valid g → Begins counted g
+        → ((n : ℕ) → is_one_of g.substrates n ≡ true → counted n ≡ true → steps n ≡ 1) → owed_to counted g ≡ commands_of steps counted g }
 {}
 
 /// Nothing is disturbed where a carrier is created, arrives at a port, is read, or is forgotten with its substrates, and where a
@@ -68,7 +69,7 @@ pub fn nothing_is_owed_where_each_is_done()
 /// What is said here is said of what is kept: floors that say the same of it agree.
 pub fn what_is_owed_is_said_of_what_is_kept()
     ensures owed { (counted : ℕ → Bool) (g h : Floor) → Agree g h → owed_to counted h ≡ owed_to counted g }
-    ensures commands { (counted : ℕ → Bool) (g h : Floor) → Agree g h → commands_of counted h ≡ commands_of counted g }
+    ensures commands { (steps : ℕ → ℕ) (counted : ℕ → Bool) (g h : Floor) → Agree g h → commands_of steps counted h ≡ commands_of steps counted g }
     ensures undisturbed { (counted : ℕ → Bool) (g h : Floor) → Agree g h → Valid g → Undisturbed counted g → Undisturbed counted h }
     ensures unaligned { (g h : Floor) → Agree g h → Valid g → AreUnaligned g → AreUnaligned h }
 {}

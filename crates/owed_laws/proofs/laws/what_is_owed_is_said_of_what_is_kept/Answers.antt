@@ -5,7 +5,7 @@ pub returns-clause-owed : goal.returns-clause-owed
 returns-clause-owed c = λ counted g h a. agree-owed g h a counted
 
 pub returns-clause-commands : goal.returns-clause-commands
-returns-clause-commands c = λ counted g h a. agree-commands g h a counted
+returns-clause-commands c = λ steps counted g h a. agree-commands g h a steps counted
 
 pub returns-clause-undisturbed : goal.returns-clause-undisturbed
 returns-clause-undisturbed c = λ counted g h a v u. agree-undisturbed g h a counted v u

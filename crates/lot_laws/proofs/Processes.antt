@@ -156,10 +156,11 @@ module _ (number : ℕ) (counted : ℕ → Bool) (f : ToolFloor) (h : Sound f) (
     pub joined-work : is_left_in number j.id f.jobs ≡ true → IsFirstLeft → IsAtWork number before (fired_jobs n 2 f.jobs) → AtWork number counted before (with_jobs (fired_jobs n 2 f.jobs) (with_members j f))
     joined-work left_in head steers = works_on f (joined j f.shop) (joined_alone f j) (fired_jobs n 2 f.jobs) number counted before h e goes where
       -- the first that names a slot is as it was
+      alone_on : (x : Substrate) → first_naming number (behind f (joined j f.shop) (joined_alone f j) (fired_jobs n 2 f.jobs)) (joined j f.shop x) ≡ first_naming number (with_jobs (fired_jobs n 2 f.jobs) f) x
+      alone_on x = first_alone number (behind f (joined j f.shop) (joined_alone f j) (fired_jobs n 2 f.jobs)) x (joined j f.shop x) (ap (λ (y : Substrate). y.carrier) (joined_alone f j x)) (ap (λ (y : Substrate). y.slot) (joined_alone f j x))
+
       first_on : (x : Substrate) → first_naming number (behind f (joined j f.shop) (joined_alone f j) (fired_jobs n 2 f.jobs)) (joined j f.shop x) ≡ first_naming number f x
-      first_on x =
-          first_alone number (behind f (joined j f.shop) (joined_alone f j) (fired_jobs n 2 f.jobs)) x (joined j f.shop x) (ap (λ (y : Substrate). y.carrier) (joined_alone f j x)) (ap (λ (y : Substrate). y.slot) (joined_alone f j x))
-          ∙ first_fired number f x n 2
+      first_on x = alone_on x ∙ first_fired number f x n 2
 
       then_in : (x : Substrate) → can_join j f.shop x ≡ true → IsInJob number (joined j f.shop x) (behind f (joined j f.shop) (joined_alone f j) (fired_jobs n 2 f.jobs))
       then_in x q = (
@@ -178,7 +179,7 @@ module _ (number : ℕ) (counted : ℕ → Bool) (f : ToolFloor) (h : Sound f) (
       stands m x found (inr (inr v)) false q =
           let other : v.at ≡ n → ⊥ = λ same. true≢false (sym v.joins ∙ ap (λ (i : ProcessJob). can_join i f.shop x) (that v.at v.job v.kept same) ∙ q) in
           let u = waits_else 2 x v other in
-          inr (inr (record { at = u.at; job = u.job; kept = u.kept; left = u.left; first = first_on x ∙ v.first; queued = u.queued; joins = ap (can_join u.job f.shop) (joined_same x q) ∙ u.joins }))
+          inr (inr (record { at = u.at; job = u.job; kept = u.kept; left = u.left; first = alone_on x ∙ u.first; queued = u.queued; joins = ap (can_join u.job f.shop) (joined_same x q) ∙ u.joins }))
 
       members : (m : ℕ) (x : Substrate) (i : ProcessJob) → substrate_numbered m f.substrates ≡ Some x → job_of (joined j f.shop x) (fired_jobs n 2 f.jobs) ≡ Some i → (b : Bool) → can_join j f.shop x ≡ b → counted m ≡ true
       members m x i found its true q = e.all m n x j found known left_in q

@@ -1,4 +1,4 @@
-use Rattle.std.proofs.Common.{◌+◌, ◌<◌, ◌∷◌, [], ◌++◌, ℕ, List, length, sym, ◌∙◌, subst, arith}
+use Rattle.std.proofs.Common.{ℕ, sym, ◌∙◌, subst, arith}
 use Rattle.nv_spool.proofs.Compaction.{half_written, both_halves, selector_named, done}
 use Rattle.nv_spool.proofs.Holding.{then_sync}
 use Rattle.nv_spool.specs.Writing.{next}

@@ -1,4 +1,4 @@
-use Rattle.std.proofs.Common.{◌≡◌, ◌+◌, ◌∷◌, [], ℕ, length, inl, sym, ◌∙◌, ap, subst, arith, length-append}
+use Rattle.std.proofs.Common.{◌≡◌, ◌+◌, ◌∷◌, [], ℕ, length, inl, ◌∙◌, ap, subst, arith, length-append}
 use Rattle.nv_spool.proofs.Changes.{fits_behind, put_moments, settled_more}
 use Rattle.nv_spool.specs.Writing.{BeforeOrAfter}
 use Rattle.spool_format.proofs.Moments.{weaker}

@@ -11,7 +11,9 @@ pub mod laws;
 mod read;
 mod reader;
 mod recipes;
+mod routes;
 mod values;
+pub mod worked;
 
 pub use fault::ConfigFault;
 pub use read::{CONFIGURATION_BYTES, read_config};

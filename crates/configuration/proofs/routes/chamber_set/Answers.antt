@@ -6,7 +6,7 @@ use Rattle.toml.specs.declared.value.Value.{Value}
 use Rattle.tool_tasks.specs.Chambers.{has_chamber}
 use Rattle.configuration.specs.Values.{has, number_in, numbers_behind}
 use Rattle.configuration.proofs.ChamberSets.{IsSetOf, set_of_more}
-use Rattle.configuration.proofs.recipes.chamber_set.Goals as goal
+use Rattle.configuration.proofs.routes.chamber_set.Goals as goal
 
 -- one number more is read
 one_more : (most n : ℕ) (seen : List ℕ) (d : Data) (ds : Items) → number_in 1 most d ≡ Some n → has n seen ≡ false → numbers_behind 1 most seen (item d ds) ≡ numbers_behind 1 most (seen ++ n ∷ []) ds

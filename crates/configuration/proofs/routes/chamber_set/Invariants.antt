@@ -2,7 +2,7 @@ use Rattle.std.proofs.Common.{◌≡◌, ℕ, List, [], drop}
 use Rattle.toml.specs.View.{items_view}
 use Rattle.configuration.specs.Values.{numbers_behind}
 use Rattle.configuration.proofs.ChamberSets.{IsSetOf}
-use Rattle.configuration.proofs.recipes.chamber_set.Given as goal
+use Rattle.configuration.proofs.routes.chamber_set.Given as goal
 
 abbrev pub invariant-loop-value : goal.invariant-loop-value
 invariant-loop-value l =

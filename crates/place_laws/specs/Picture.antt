@@ -107,7 +107,7 @@ numbers_from n (suc count) = n ∷ numbers_from (n + 1) count
 
 -- ---- jobs
 
--- the chambers of a recipe, where there is one
+-- the chambers of the first step of a recipe, where there is one
 abbrev pub chambers_in : Option Recipe → List ℕ
 chambers_in o = chamber_list (chambers_of o)
 

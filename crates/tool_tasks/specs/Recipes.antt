@@ -2,7 +2,7 @@
 use Rattle.std.specs.Prelude.{ℕ, []}
 use Rattle.tool_tasks.specs.declared.recipes.Recipe.{Recipe}
 
--- the greatest number of recipes (this tool's profile, configuration)
+-- the greatest number of recipes (this tool's profile, limits)
 abbrev pub most_recipes : ℕ
 most_recipes = 32
 

@@ -76,8 +76,8 @@ steps_long chambers [] steps e = let same : [] ≡ steps = cc in ap length (sym 
 steps_long chambers (v ∷ vs) steps e =
     option_and_then_some (λ step. option_map (λ rest. step ∷ rest) (steps_in chambers (items_view vs))) (chambers_in chambers (view v)) steps e
     (λ step there later.
-        option_map_some (λ rest. step ∷ rest) (steps_in chambers (items_view vs)) steps later
-        (λ rest read same. ap length (sym same) ∙ ap suc (steps_long chambers vs rest read)))
+    option_map_some (λ rest. step ∷ rest) (steps_in chambers (items_view vs)) steps later
+    (λ rest read same. ap length (sym same) ∙ ap suc (steps_long chambers vs rest read)))
 
 -- too many are no route
 pub too_many : (chambers : ℕ) (values : List Value) → most_steps < length values → option_and_then (passing is_route) (steps_in chambers (items_view values)) ≡ None

@@ -38,10 +38,10 @@ pub number_lies : (least most n : ℕ) (d : Data) → number_in least most d ≡
 number_lies least most n d e =
     option_and_then_some (passing (is_between least most)) (as_natural d) n e
     (λ k there passes.
-        let lies = and_parts (nat_le least n) (nat_le n most) (passing_some (is_between least most) k n passes) in
-        let a = lies.0 in
-        let b = lies.1 in
-        record { first = grind (arith, nat_tests, a); last = grind (arith, nat_tests, b) })
+    let lies = and_parts (nat_le least n) (nat_le n most) (passing_some (is_between least most) k n passes) in
+    let a = lies.0 in
+    let b = lies.1 in
+    record { first = grind (arith, nat_tests, a); last = grind (arith, nat_tests, b) })
 
 -- a list that isn't empty has a first value
 pub record HasFirst (ds : Items) : Type 0 where

@@ -39,8 +39,8 @@ stays_in n least most found no_items ns here e = let same : found ≡ ns = cc in
 stays_in n least most found (item d ds) ns here e =
     option_and_then_some (λ k. if has k found then None else numbers_behind least most (found ++ k ∷ []) ds) (number_in least most d) ns e
     (λ k there later.
-        stays_in n least most (found ++ k ∷ []) ds ns (any_front (nat_eq n) found (k ∷ []) here)
-        (unless_some (has k found) (numbers_behind least most (found ++ k ∷ []) ds) ns later))
+    stays_in n least most (found ++ k ∷ []) ds ns (any_front (nat_eq n) found (k ∷ []) here)
+    (unless_some (has k found) (numbers_behind least most (found ++ k ∷ []) ds) ns later))
 
 -- ---- steps
 
@@ -49,39 +49,39 @@ first_usable : (chambers : ℕ) (d : Data) (ds : Items) (ns : List ℕ) → cham
 first_usable chambers d ds ns few e =
     option_and_then_some (λ k. if has k [] then None else numbers_behind 1 chambers ([] ++ k ∷ []) ds) (number_in 1 chambers d) ns e
     (λ n there later.
-        let lies = number_lies 1 chambers n d there in
-        let first = lies.first in
-        let last = lies.last in
-        let here = stays_in n 1 chambers (n ∷ []) ds ns (any_last n []) later in
-        any_listed (λ c. nat_le c chambers) (chamber_set ns) n first (omega (arith, last, few)) (set_has ns 0 n (or_right (has_chamber 0 n) (has n ns) here)) (grind (arith, nat_tests, last)))
+    let lies = number_lies 1 chambers n d there in
+    let first = lies.first in
+    let last = lies.last in
+    let here = stays_in n 1 chambers (n ∷ []) ds ns (any_last n []) later in
+    any_listed (λ c. nat_le c chambers) (chamber_set ns) n first (omega (arith, last, few)) (set_has ns 0 n (or_right (has_chamber 0 n) (has n ns) here)) (grind (arith, nat_tests, last)))
 
 step_usable : (chambers : ℕ) (d : Data) (step : ℕ) → chambers ≤ last_chamber → chambers_in chambers d ≡ Some step → has_one_of chambers step ≡ true
 step_usable chambers d step few e =
     option_map_some chamber_set (option_and_then (numbers_behind 1 chambers []) (filled_list d)) step e
     (λ ns some same.
-        option_and_then_some (numbers_behind 1 chambers []) (filled_list d) ns some
-        (λ ds there read.
-            let list = filled_list_some d ds there in
-            subst (λ (x : ℕ). has_one_of chambers x ≡ true) same
-            (first_usable chambers list.first list.rest ns few (subst (λ (x : Items). numbers_behind 1 chambers [] x ≡ Some ns) (sym list.is) read))))
+    option_and_then_some (numbers_behind 1 chambers []) (filled_list d) ns some
+    (λ ds there read.
+    let list = filled_list_some d ds there in
+    subst (λ (x : ℕ). has_one_of chambers x ≡ true) same
+    (first_usable chambers list.first list.rest ns few (subst (λ (x : Items). numbers_behind 1 chambers [] x ≡ Some ns) (sym list.is) read))))
 
 steps_usable : (chambers : ℕ) (ds : Items) (steps : List ℕ) → chambers ≤ last_chamber → steps_in chambers ds ≡ Some steps → list_all (has_one_of chambers) steps ≡ true
 steps_usable chambers no_items steps few e = let same : [] ≡ steps = cc in ap (list_all (has_one_of chambers)) (sym same)
 steps_usable chambers (item d ds) steps few e =
     option_and_then_some (λ step. option_map (λ rest. step ∷ rest) (steps_in chambers ds)) (chambers_in chambers d) steps e
     (λ step there later.
-        option_map_some (λ rest. step ∷ rest) (steps_in chambers ds) steps later
-        (λ rest read same.
-            subst (λ (x : List ℕ). list_all (has_one_of chambers) x ≡ true) same
-            (and_from (has_one_of chambers step) (list_all (has_one_of chambers) rest) (step_usable chambers d step few there) (steps_usable chambers ds rest few read))))
+    option_map_some (λ rest. step ∷ rest) (steps_in chambers ds) steps later
+    (λ rest read same.
+    subst (λ (x : List ℕ). list_all (has_one_of chambers) x ≡ true) same
+    (and_from (has_one_of chambers step) (list_all (has_one_of chambers) rest) (step_usable chambers d step few there) (steps_usable chambers ds rest few read))))
 
 -- a list that isn't empty has a step
 some_steps : (chambers : ℕ) (d : Data) (ds : Items) (steps : List ℕ) → steps_in chambers (item d ds) ≡ Some steps → nat_le 1 (length steps) ≡ true
 some_steps chambers d ds steps e =
     option_and_then_some (λ step. option_map (λ rest. step ∷ rest) (steps_in chambers ds)) (chambers_in chambers d) steps e
     (λ step there later.
-        option_map_some (λ rest. step ∷ rest) (steps_in chambers ds) steps later
-        (λ rest read same. subst (λ (x : List ℕ). nat_le 1 (length x) ≡ true) same (at_least (length rest))))
+    option_map_some (λ rest. step ∷ rest) (steps_in chambers ds) steps later
+    (λ rest read same. subst (λ (x : List ℕ). nat_le 1 (length x) ≡ true) same (at_least (length rest))))
   where
     at_least : (n : ℕ) → nat_le 1 (suc n) ≡ true
     at_least n = grind (arith, nat_tests)
@@ -101,15 +101,15 @@ route_in_usable : (chambers : ℕ) (name : List ℕ) (d : Data) (route : List �
 route_in_usable chambers name d route few e =
     option_and_then_some (passing is_route) (option_and_then (steps_in chambers) (filled_list d)) route e
     (λ steps there passes.
-        let same : steps ≡ route = passing_same is_route steps route passes in
-        let is = and_parts (nat_le (length route) most_steps) (rises route) (passing_some is_route steps route passes) in
-        option_and_then_some (steps_in chambers) (filled_list d) route (there ∙ ap (λ (x : List ℕ). Some x) same)
-        (λ ds filled read.
-            let list = filled_list_some d ds filled in
-            let from_first = subst (λ (x : Items). steps_in chambers x ≡ Some route) (sym list.is) read in
-            and_from (nat_le 1 (length route)) (nat_le (length route) most_steps && (rises route && list_all (has_one_of chambers) route)) (some_steps chambers list.first list.rest route from_first)
-            (and_from (nat_le (length route) most_steps) (rises route && list_all (has_one_of chambers) route) is.0
-            (and_from (rises route) (list_all (has_one_of chambers) route) is.1 (steps_usable chambers ds route few read)))))
+    let same : steps ≡ route = passing_same is_route steps route passes in
+    let is = and_parts (nat_le (length route) most_steps) (rises route) (passing_some is_route steps route passes) in
+    option_and_then_some (steps_in chambers) (filled_list d) route (there ∙ ap (λ (x : List ℕ). Some x) same)
+    (λ ds filled read.
+    let list = filled_list_some d ds filled in
+    let from_first = subst (λ (x : Items). steps_in chambers x ≡ Some route) (sym list.is) read in
+    and_from (nat_le 1 (length route)) (nat_le (length route) most_steps && (rises route && list_all (has_one_of chambers) route)) (some_steps chambers list.first list.rest route from_first)
+    (and_from (nat_le (length route) most_steps) (rises route && list_all (has_one_of chambers) route) is.0
+    (and_from (rises route) (list_all (has_one_of chambers) route) is.1 (steps_usable chambers ds route few read)))))
 
 -- the chambers of version 1 are a route of one step
 chambers_one_step : (chambers : ℕ) (d : Data) (route : List ℕ) → option_map (λ step. step ∷ []) (chambers_in chambers d) ≡ Some route → (step : ℕ) × (chambers_in chambers d ≡ Some step) × (step ∷ [] ≡ route)
@@ -131,10 +131,10 @@ recipe_passes test version chambers each ms r e =
     option_and_then_some (λ name. option_map (named name) (option_and_then (route_of version chambers) (get_member (route_key version) ms))) (option_and_then (text_of 64) (get_member (codes "name") ms)) r
     (unless_some (has_other (recipe_keys version) ms) _ r e)
     (λ name said routed.
-        option_map_some (named name) (option_and_then (route_of version chambers) (get_member (route_key version) ms)) r routed
-        (λ route there same.
-            option_and_then_some (route_of version chambers) (get_member (route_key version) ms) route there
-            (λ d at read. subst (λ (x : Recipe). test x ≡ true) same (each name d route read))))
+    option_map_some (named name) (option_and_then (route_of version chambers) (get_member (route_key version) ms)) r routed
+    (λ route there same.
+    option_and_then_some (route_of version chambers) (get_member (route_key version) ms) route there
+    (λ d at read. subst (λ (x : Recipe). test x ≡ true) same (each name d route read))))
 
 -- and of each of those that are taken
 all_pass : (test : Recipe → Bool) (version chambers : ℕ) → ((ms : Members) (r : Recipe) → recipe_in version chambers ms ≡ Some r → test r ≡ true) → (found : List Recipe) (ds : Items) (rs : List Recipe) → list_all test found ≡ true → recipes_behind version chambers found ds ≡ Some rs → list_all test rs ≡ true
@@ -142,15 +142,15 @@ all_pass test version chambers each found no_items rs before e = let same : foun
 all_pass test version chambers each found (item d ds) rs before e =
     option_and_then_some (λ more. recipes_behind version chambers more ds) (option_and_then (with_recipe found) (option_and_then (recipe_in version chambers) (as_table d))) rs e
     (λ more put later.
-        option_and_then_some (with_recipe found) (option_and_then (recipe_in version chambers) (as_table d)) more put
-        (λ r read fits.
-            option_and_then_some (recipe_in version chambers) (as_table d) r read
-            (λ ms table is.
-                let same : Some (found ++ r ∷ []) ≡ Some more = unless_some (nat_le most_recipes (length found) || has_name r.name found) (Some (found ++ r ∷ [])) more fits in
-                let whole : found ++ r ∷ [] ≡ more = cc in
-                all_pass test version chambers each more ds rs
-                (subst (λ (x : List Recipe). list_all test x ≡ true) whole (list_all-append test found (r ∷ []) ∙ and_from (list_all test found) (test r && true) before (and_from (test r) true (each ms r is) refl)))
-                later)))
+    option_and_then_some (with_recipe found) (option_and_then (recipe_in version chambers) (as_table d)) more put
+    (λ r read fits.
+    option_and_then_some (recipe_in version chambers) (as_table d) r read
+    (λ ms table is.
+    let same : Some (found ++ r ∷ []) ≡ Some more = unless_some (nat_le most_recipes (length found) || has_name r.name found) (Some (found ++ r ∷ [])) more fits in
+    let whole : found ++ r ∷ [] ≡ more = cc in
+    all_pass test version chambers each more ds rs
+    (subst (λ (x : List Recipe). list_all test x ≡ true) whole (list_all-append test found (r ∷ []) ∙ and_from (list_all test found) (test r && true) before (and_from (test r) true (each ms r is) refl)))
+    later)))
 
 list_passes : (test : Recipe → Bool) (version chambers : ℕ) → ((ms : Members) (r : Recipe) → recipe_in version chambers ms ≡ Some r → test r ≡ true) → (d : Data) (rs : List Recipe) → recipes_of version chambers d ≡ Some rs → list_all test rs ≡ true
 list_passes test version chambers each d rs e =

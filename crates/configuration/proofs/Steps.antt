@@ -1,12 +1,12 @@
 -- Routes step by step, and sets of chambers number by number.
-use Rattle.std.proofs.Common.{◌≡◌, ◌≤◌, ◌<◌, ◌+◌, ◌-◌, ℕ, suc, nat_lt, nat_le, Bool, true, false, ◌&&◌, ◌||◌, not, cond, if◌then◌else◌, List, [], ◌∷◌, ◌++◌, length, drop, get_or, Option, Some, None, option_and_then, option_map, append_assoc, refl, sym, ap, ◌∙◌, arith}
+use Rattle.std.proofs.Common.{◌≡◌, ◌≤◌, ◌<◌, ◌+◌, ◌-◌, ℕ, suc, nat_le, Bool, true, false, ◌&&◌, ◌||◌, not, cond, if◌then◌else◌, List, [], ◌∷◌, ◌++◌, length, drop, get_or, Option, Some, None, option_and_then, option_map, append_assoc, refl, sym, ap, ◌∙◌, arith}
 use Rattle.std.specs.List.{list_all, filter, range_with_len}
 use Rattle.std.proofs.Math.Seq.{drop-cons}
 use Rattle.std.proofs.lemmas.Bool.Decides.{nat_tests}
 use Rattle.std.proofs.lemmas.Option.{option_and_then_some}
 use Rattle.toml.specs.View.{view, items_view}
 use Rattle.toml.specs.declared.value.Value.{Value}
-use Rattle.tool_tasks.specs.Chambers.{last_chamber, has_chamber, chamber_list}
+use Rattle.tool_tasks.specs.Chambers.{last_chamber, has_chamber}
 use Rattle.tool_tasks.specs.Routes.{most_steps, is_before, rises}
 use Rattle.configuration.specs.Values.{passing}
 use Rattle.configuration.specs.Routes.{chambers_in, steps_in, is_route}
@@ -41,10 +41,6 @@ all_lacks test set c last lacks = all_on test set c last ∙ ap (λ (b : Bool). 
 
 pub all_passes : (test : ℕ → Bool) (set c : ℕ) → c ≤ last_chamber → has_chamber set c ≡ true → test c ≡ true → all_from test set c ≡ all_from test set (c + 1)
 all_passes test set c last has passes = all_on test set c last ∙ ap (λ (b : Bool). (not b || test c) && all_from test set (c + 1)) has ∙ ap (λ (b : Bool). b && all_from test set (c + 1)) passes
-
--- there are none behind the last
-pub all_end : (test : ℕ → Bool) (set c : ℕ) → last_chamber + 1 ≤ c → all_from test set c ≡ true
-all_end test set c past = let none : last_chamber + 1 - c ≡ 0 = omega arith in ap (λ (n : ℕ). list_all test (filter (has_chamber set) (range_with_len c n))) none
 
 -- ---- steps that rise
 

@@ -8,7 +8,7 @@ use Rattle.std.proofs.lemmas.Nat.Bits.{bit_at_ones}
 use Rattle.std.proofs.lemmas.Option.{option_and_then_some}
 use Rattle.toml.specs.Data.{Data, Items, no_items, item, Members, as_table, get_member}
 use Rattle.tool_events.specs.Configs.{has_one_of, is_usable, are_usable, have_one_step}
-use Rattle.tool_tasks.specs.Chambers.{last_chamber, has_chamber, chamber_set, chamber_list, chambers_to}
+use Rattle.tool_tasks.specs.Chambers.{last_chamber, has_chamber, chamber_set, chambers_to}
 use Rattle.tool_tasks.specs.Recipes.{most_recipes}
 use Rattle.tool_tasks.specs.Routes.{most_steps, rises}
 use Rattle.tool_tasks.specs.declared.recipes.Recipe.{Recipe}

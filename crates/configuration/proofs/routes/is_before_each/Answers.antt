@@ -1,7 +1,7 @@
 use Rattle.std.proofs.Common.{◌≡◌, ◌≤◌, nat_lt, true, false, sym, ap, ◌∙◌, arith}
 use Rattle.std.proofs.lemmas.Bool.Decides.{nat_tests}
 use Rattle.tool_tasks.specs.Chambers.{last_chamber, has_chamber}
-use Rattle.configuration.proofs.Steps.{all_fails, all_lacks, all_passes, all_end}
+use Rattle.configuration.proofs.Steps.{all_fails, all_lacks, all_passes}
 use Rattle.configuration.proofs.routes.is_before_each.Goals.{else-has_chamber-via-then-has_chamber+else-other-chamber, else-has_chamber-via-else-has_chamber}
 use Rattle.configuration.proofs.routes.is_before_each.Goals as goal
 

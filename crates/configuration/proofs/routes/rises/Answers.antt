@@ -1,4 +1,4 @@
-use Rattle.std.proofs.Common.{◌≡◌, ◌-◌, ◌≤◌, drop, length, length-drop, sym, ◌∙◌, arith}
+use Rattle.std.proofs.Common.{◌-◌, ◌≤◌, drop, length, length-drop, sym, ◌∙◌, arith}
 use Rattle.configuration.proofs.Steps.{one_rises}
 use Rattle.configuration.proofs.routes.rises.Goals as goal
 

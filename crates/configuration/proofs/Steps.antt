@@ -1,13 +1,12 @@
 -- Routes step by step, and sets of chambers number by number.
-use Rattle.std.proofs.Common.{◌≡◌, ◌≤◌, ◌<◌, ◌+◌, ◌-◌, ℕ, suc, nat_le, Bool, true, false, ◌&&◌, ◌||◌, not, cond, if◌then◌else◌, List, [], ◌∷◌, ◌++◌, length, drop, get_or, Option, Some, None, option_and_then, option_map, append_assoc, refl, sym, ap, ◌∙◌, arith}
+use Rattle.std.proofs.Common.{◌≡◌, ◌≤◌, ◌<◌, ◌+◌, ◌-◌, ℕ, suc, nat_le, Bool, true, false, ◌&&◌, ◌||◌, not, cond, if◌then◌else◌, List, [], ◌∷◌, length, Option, Some, None, option_and_then, option_map, refl, sym, ap, ◌∙◌, arith}
 use Rattle.std.specs.List.{list_all, filter, range_with_len}
-use Rattle.std.proofs.Math.Seq.{drop-cons}
 use Rattle.std.proofs.lemmas.Bool.Decides.{nat_tests}
 use Rattle.std.proofs.lemmas.Option.{option_and_then_some}
 use Rattle.toml.specs.View.{view, items_view}
 use Rattle.toml.specs.declared.value.Value.{Value}
 use Rattle.tool_tasks.specs.Chambers.{last_chamber, has_chamber}
-use Rattle.tool_tasks.specs.Routes.{most_steps, is_before, rises}
+use Rattle.tool_tasks.specs.Routes.{most_steps, rises}
 use Rattle.configuration.specs.Values.{passing}
 use Rattle.configuration.specs.Routes.{chambers_in, steps_in, is_route}
 use Rattle.configuration.proofs.Taken.{option_map_some}
@@ -44,15 +43,6 @@ all_passes test set c last has passes = all_on test set c last ∙ ap (λ (b : B
 
 -- ---- steps that rise
 
--- the steps from one on rise where that one is before the next, and those from the next on rise
-pub rises_on : (route : List ℕ) (i : ℕ) → i + 1 < length route → rises (drop i route) ≡ (is_before (get_or route i 0) (get_or route (i + 1) 0) && rises (drop (i + 1) route))
-rises_on route i less =
-    let one : i + 1 ≡ suc i = omega arith in
-    let here : drop i route ≡ get_or route i 0 ∷ drop (i + 1) route = drop-cons route i 0 (omega arith) ∙ ap (λ n. get_or route i 0 ∷ drop n route) (sym one) in
-    let next = drop-cons route (i + 1) 0 less in
-    ap rises (here ∙ ap (λ (steps : List ℕ). get_or route i 0 ∷ steps) next)
-    ∙ ap (λ (steps : List ℕ). is_before (get_or route i 0) (get_or route (i + 1) 0) && rises steps) (sym next)
-
 -- one step rises
 pub one_rises : (route : List ℕ) → length route ≤ 1 → rises route ≡ true
 one_rises [] few = refl
@@ -60,11 +50,6 @@ one_rises (step ∷ []) few = refl
 one_rises (step ∷ next ∷ steps) few = absurd (omega arith)
 
 -- ---- steps that are read
-
--- those that were read stand before those that come
-pub one_more : (found : List ℕ) (step : ℕ) (o : Option (List ℕ)) → option_map (λ steps. found ++ steps) (option_map (λ steps. step ∷ steps) o) ≡ option_map (λ steps. (found ++ step ∷ []) ++ steps) o
-one_more found step None = refl
-one_more found step (Some steps) = ap (λ (xs : List ℕ). Some xs) (sym (append_assoc found (step ∷ []) steps))
 
 -- there are as many steps as values
 steps_long : (chambers : ℕ) (values : List Value) (steps : List ℕ) → steps_in chambers (items_view values) ≡ Some steps → length steps ≡ length values

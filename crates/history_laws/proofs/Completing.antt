@@ -30,7 +30,7 @@ use Rattle.floor_model.specs.Machines.{floor_starts, floor_fired, floor_least}
 use Rattle.floor_model.proofs.Keeping.{least_starts}
 use Rattle.place_laws.specs.Picture.{picture}
 use Rattle.floor_laws.specs.Rows.{listed}
-use Rattle.owed_laws.specs.Owed.{owed_to, commands_of}
+use Rattle.lot_laws.specs.Lot.{owed_to, commands_of}
 use Rattle.queue_laws.specs.Steers.{is_executing, AreAutomatic}
 use Rattle.queue_laws.proofs.Lists.{number_is, changed_back}
 use Rattle.queue_laws.proofs.Rows.{by_executing}

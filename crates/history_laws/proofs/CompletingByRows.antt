@@ -4,7 +4,7 @@ use Rattle.load_port.specs.Ports.{most_ports}
 use Rattle.tool_events.specs.declared.config.Config.{Config}
 use Rattle.tool_events.specs.declared.entry.Entry.{Entry}
 use Rattle.place_laws.specs.Picture.{picture}
-use Rattle.owed_laws.specs.Owed.{commands_of}
+use Rattle.lot_laws.specs.Lot.{commands_of}
 use Rattle.lot_laws.specs.Lot.{counted_of, InOrder, IsCalmBetween}
 use Rattle.gem_model.specs.State.{State, opening}
 use Rattle.gem_model.specs.Step.{Outcome}

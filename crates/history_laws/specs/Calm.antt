@@ -30,7 +30,7 @@ use Rattle.tool_jobs.specs.Jobs.{Jobs}
 use Rattle.floor_model.specs.Floor.{ToolFloor}
 use Rattle.floor_model.specs.Signals.{done_rows, closing_rows}
 use Rattle.place_laws.specs.Picture.{picture}
-use Rattle.owed_laws.specs.Owed.{commands_of}
+use Rattle.lot_laws.specs.Lot.{commands_of}
 use Rattle.queue_laws.specs.Started.{is_left_in}
 use Rattle.queue_laws.specs.Steers.{AreAutomatic, disturbs_control}
 use Rattle.lot_laws.specs.Lot.{counted_of, IsMaterialHere}

@@ -10,7 +10,7 @@ use Rattle.robot_moves.specs.Modules.{is_open as has_open}
 use Rattle.control_job.specs.Jobs.{job_numbered as control_numbered, is_open}
 use Rattle.control_job.specs.declared.job.ControlJob.{ControlJob}
 use Rattle.place_laws.specs.Picture.{picture}
-use Rattle.owed_laws.specs.Owed.{commands_of}
+use Rattle.lot_laws.specs.Lot.{commands_of}
 use Rattle.floor_model.specs.Machines.{floor_starts, floor_fired}
 use Rattle.queue_laws.specs.Steers.{AreAutomatic}
 use Rattle.lot_laws.specs.Lot.{counted_of, IsMaterialHere, IsCalmBetween}

@@ -24,7 +24,7 @@ use Rattle.place_laws.specs.Picture.{picture, of_one}
 use Rattle.place_laws.specs.Sound.{Sound}
 use Rattle.place_laws.proofs.Holding.{found_among, rising_given}
 use Rattle.floor_laws.proofs.JobSays.{member_tells, any_found}
-use Rattle.owed_laws.specs.Owed.{owed_to, commands_of}
+use Rattle.lot_laws.specs.Lot.{one_step, owed_to, commands_of}
 use Rattle.owed_laws.specs.Undisturbed.{AreUnaligned, Begins}
 use Rattle.owed_laws.proofs.Beginning.{begins_undisturbed, begins_owed}
 use Rattle.queue_laws.specs.Started.{is_queued, is_left_in, AreStarted}
@@ -148,4 +148,4 @@ module _ (number row : ℕ) (f : ToolFloor) (h : Sound f) (t : AreTogether f.job
           (any_found _ (wants_slot number f x) f.jobs.process.kept j its (both (is_left_in number j.id f.jobs) (is_in_named_slot j f.shop x) left joins.named))
 
     pub owed_then : owed_to counted (picture (floor_fired (firing 15 number row) f)) ≡ commands_of counted (picture f)
-    owed_then = begins_owed counted (picture f) h.valid begins
+    owed_then = begins_owed counted (picture f) h.valid begins (one_step (picture f))

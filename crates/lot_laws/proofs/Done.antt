@@ -26,9 +26,10 @@ use Rattle.picture_laws.proofs.Rows.{processing_agrees}
 use Rattle.floor_laws.proofs.JobSight.{none_some, some_same}
 use Rattle.floor_laws.proofs.JobLists.{none_first}
 use Rattle.floor_laws.proofs.JobSays.{member_tells}
-use Rattle.owed_laws.specs.Owed.{owed_to}
+use Rattle.lot_laws.specs.Lot.{owed_to}
 use Rattle.owed_laws.specs.Undisturbed.{Undisturbed}
-use Rattle.owed_laws.proofs.Agreeing.{agree-undisturbed, agree-owed}
+use Rattle.owed_laws.proofs.Agreeing.{agree-undisturbed}
+use Rattle.lot_laws.proofs.Owing.{agree-owed}
 use Rattle.lot_laws.specs.Lot.{is_in_named_slot, Waits, Executes}
 use Rattle.lot_laws.proofs.Standing.{joins_tell}
 use Rattle.lot_laws.proofs.Substrates.{change-executes}

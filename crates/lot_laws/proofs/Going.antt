@@ -19,8 +19,9 @@ use Rattle.place_laws.specs.Sound.{Sound}
 use Rattle.floor_laws.proofs.JobSight.{none_some, some_same}
 use Rattle.floor_laws.proofs.JobChanges.{IsJobAlone, numbers_map, found_map, says_map}
 use Rattle.floor_laws.proofs.JobSays.{member_tells}
-use Rattle.owed_laws.specs.Owed.{owed_to}
-use Rattle.owed_laws.proofs.Agreeing.{agree-undisturbed, agree-owed}
+use Rattle.lot_laws.specs.Lot.{owed_to}
+use Rattle.owed_laws.proofs.Agreeing.{agree-undisturbed}
+use Rattle.lot_laws.proofs.Owing.{agree-owed}
 use Rattle.queue_laws.specs.Started.{is_left_in, AreStarted}
 use Rattle.queue_laws.specs.Steers.{Steers}
 use Rattle.lot_laws.specs.Lot.{IsInJob, Waits, Executes, IsAtWork, AtWork}
@@ -47,6 +48,7 @@ module _ (f : ToolFloor) (change : Substrate → Substrate) (alone : IsJobAlone 
     place_of = λ n. refl;
     processing = λ n _. processing_same n;
     is_aligned = λ n _. says_map change alone false (λ (s : Substrate). s.aligned) (λ s. ap (λ (x : Substrate). x.aligned) (alone s)) n f.substrates;
+    steps_of = λ k _ _. refl;
     carriers = refl;
     present_at = λ c. refl;
     is_verified = λ c _. refl;
@@ -57,7 +59,7 @@ module _ (f : ToolFloor) (change : Substrate → Substrate) (alone : IsJobAlone 
       is_stopping = λ n. refl;
       is_aborting = λ n. refl;
       is_complete = λ n. refl;
-      chambers_of = λ n. refl;
+      route_of = λ n. refl;
       names_carrier = λ c p _. refl;
       is_marked = λ c p _. refl;
     };

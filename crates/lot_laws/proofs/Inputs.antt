@@ -107,7 +107,6 @@ pub fetched-executes : (number : ℕ) (counted : ℕ → Bool) (f : ToolFloor) �
 fetched-executes number counted f e m = places-executes number counted f e f.places (change_module m taken f.modules) (λ k is. is) (record {
   here = e.substrates.here;
   finished = e.substrates.finished;
-  in_chamber = e.substrates.in_chamber;
   in_slot = e.substrates.in_slot;
   to_chamber = λ k n c d g q. e.substrates.to_chamber k n c d (sym (fetched_same f m k) ∙ g) q;
   not_given = e.substrates.not_given;

@@ -1,5 +1,6 @@
 pub mod AtWork
 pub mod Naming
+pub mod Owing
 pub mod Standing
 pub mod Works
 pub mod Steering

@@ -33,7 +33,7 @@ use Rattle.floor_laws.proofs.JobChanges.{map_same}
 use Rattle.floor_laws.proofs.JobFires.{over_before, fired_jobs, stays_alone}
 use Rattle.floor_laws.proofs.JobJoins.{joined_alone}
 use Rattle.floor_laws.proofs.JobEnds.{freed_alone}
-use Rattle.owed_laws.specs.Owed.{owed_to}
+use Rattle.lot_laws.specs.Lot.{owed_to}
 use Rattle.queue_laws.specs.Started.{is_queued, is_left_in, AreStarted}
 use Rattle.queue_laws.specs.Steers.{Steers, disturbs_process}
 use Rattle.queue_laws.proofs.Lists.{gone_back, names_differ}

@@ -46,9 +46,10 @@ use Rattle.floor_laws.proofs.RemAgree.{forgetting_agrees}
 use Rattle.floor_laws.proofs.RemPlaces.{filter_all}
 use Rattle.floor_laws.proofs.RemSound.{OwnerEnded, Kept, vacated_kept}
 use Rattle.floor_laws.proofs.ShopAccess.{SameAccess, access_same}
-use Rattle.owed_laws.specs.Owed.{owed_to}
+use Rattle.lot_laws.specs.Lot.{one_step, owed_to}
 use Rattle.owed_laws.specs.Undisturbed.{Undisturbed}
-use Rattle.owed_laws.proofs.Agreeing.{agree-undisturbed, agree-owed}
+use Rattle.owed_laws.proofs.Agreeing.{agree-undisturbed}
+use Rattle.lot_laws.proofs.Owing.{agree-owed}
 use Rattle.owed_laws.proofs.Carrying.{forgotten-stays}
 use Rattle.lot_laws.specs.Lot.{IsInJob, Waits, AtWork}
 use Rattle.lot_laws.proofs.Orderly.{found_among_all}
@@ -156,7 +157,7 @@ module _ (number : ℕ) (counted : ℕ → Bool) (f : ToolFloor) (kept : Kept f)
       of false q = q
 
   stays : Undisturbed counted (forgotten c.number (picture f)) × (owed_to counted (forgotten c.number (picture f)) ≡ owed_to counted (picture f))
-  stays = forgotten-stays counted (picture f) kept.valid (work-undisturbed number counted f (on_base f kept.base) e) c.number ends
+  stays = forgotten-stays (one_step (picture f)) counted (picture f) kept.valid (work-undisturbed number counted f (on_base f kept.base) e) c.number ends
 
   pub taken-works : WorksOn number counted before f (with_shop (floor_of ps (without name f.shop.carriers) next) (without_carrier (Some c.number) f))
   taken-works = (

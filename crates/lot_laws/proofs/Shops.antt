@@ -44,7 +44,7 @@ use Rattle.floor_laws.proofs.JobSays.{any_found}
 use Rattle.floor_laws.proofs.GrowTaken.{by_its_number}
 use Rattle.floor_laws.proofs.ShopAccess.{SameAccess, found_numbered, transfer_access, mode_access, reservation_access, association_access, id_access, map_access}
 use Rattle.floor_laws.proofs.ShopTables.{is_shop_row, MayAccess, may_access, takes_none}
-use Rattle.owed_laws.specs.Owed.{owed_to}
+use Rattle.lot_laws.specs.Lot.{owed_to}
 use Rattle.lot_laws.specs.Lot.{IsInJob, Waits, Executes, AtWork}
 use Rattle.lot_laws.proofs.Standing.{on_base, carried, work-jobs}
 use Rattle.lot_laws.proofs.AtWork.{at_work_of}
@@ -156,7 +156,6 @@ module _ (number : ℕ) (counted : ℕ → Bool) (f : ToolFloor) (h : Base f) {b
     substrates = record {
       here = λ n kept is left. in_access n kept ((work-jobs number counted f (on_base f h) e).named n kept is left) (e.substrates.here n kept is left);
       finished = e.substrates.finished;
-      in_chamber = e.substrates.in_chamber;
       in_slot = e.substrates.in_slot;
       to_chamber = e.substrates.to_chamber;
       not_given = e.substrates.not_given;

@@ -26,8 +26,9 @@ use Rattle.picture_laws.proofs.Rows.{transport_agrees}
 use Rattle.floor_laws.proofs.JobSight.{none_some, some_same, outside_same}
 use Rattle.floor_laws.proofs.JobSays.{member_tells}
 use Rattle.floor_laws.proofs.JobLists.{none_first}
-use Rattle.owed_laws.specs.Owed.{owed_to}
-use Rattle.owed_laws.proofs.Agreeing.{agree-undisturbed, agree-owed}
+use Rattle.lot_laws.specs.Lot.{owed_to}
+use Rattle.owed_laws.proofs.Agreeing.{agree-undisturbed}
+use Rattle.lot_laws.proofs.Owing.{agree-owed}
 use Rattle.lot_laws.specs.Lot.{is_in_named_slot, IsInJob, Waits, Executes}
 use Rattle.lot_laws.proofs.Standing.{on_base, joins_tell, undisturbed}
 use Rattle.place_laws.proofs.Holding.{found_among}

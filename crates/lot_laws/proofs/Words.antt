@@ -35,7 +35,7 @@ use Rattle.floor_laws.proofs.JobSight.{some_same}
 use Rattle.floor_laws.proofs.JobLists.{job_number_is, fired_there}
 use Rattle.floor_laws.proofs.JobFires.{fired_jobs}
 use Rattle.floor_laws.proofs.JobEnds.{freed_alone}
-use Rattle.owed_laws.specs.Owed.{owed_to}
+use Rattle.lot_laws.specs.Lot.{owed_to}
 use Rattle.queue_laws.specs.Started.{is_queued, is_left_in, AreStarted}
 use Rattle.queue_laws.proofs.Lists.{gone_back}
 use Rattle.queue_laws.proofs.Rows.{stays_queued, start_fits}

@@ -1,6 +1,6 @@
 -- A control job that executes undisturbed on the floor of the tool: its substrates (after SEMI E40, SEMI E90 and SEMI E94; this tool's
 -- profile, tables 14 and 15, and moves). Which substrates are counted is settled as it starts.
-use Rattle.std.specs.Prelude.{◌≡◌, ◌⊎◌, ℕ, ◌+◌, ◌==◌, ◌≤◌, Bool, true, false, ◌&&◌, ◌||◌, [], ◌∷◌, Option, Some, None}
+use Rattle.std.specs.Prelude.{◌≡◌, ◌⊎◌, ℕ, ◌+◌, ◌==◌, ◌≤◌, Bool, true, false, ◌&&◌, ◌||◌, List, [], ◌∷◌, Option, Some, None}
 use Rattle.std.specs.List.{list_any}
 use Rattle.gem_tables.specs.Table.{firing, is_one_of}
 use Rattle.gem_tables.specs.declared.firing.Firing.{Firing}
@@ -21,14 +21,30 @@ use Rattle.floor_model.specs.Floor.{ToolFloor, substrate_numbered}
 use Rattle.floor_model.specs.Jobs.{names_slot_of, can_join, is_here, job_of, is_stopping, is_aborting}
 use Rattle.floor_model.specs.Substrates.{reaches_verified}
 use Rattle.floor_model.specs.Machines.{floor_fired}
+use Rattle.floor_moves.specs.Floor as law
 use Rattle.floor_moves.specs.Floor.{is_done}
 use Rattle.place_laws.specs.Picture.{picture, of_substrate}
 use Rattle.place_laws.specs.Processed.{AreProcessed}
 use Rattle.place_laws.specs.Sound.{Sound}
-use Rattle.owed_laws.specs.Owed.{owed_to}
+use Rattle.owed_laws.specs.Owed as owed
 use Rattle.owed_laws.specs.Undisturbed.{SubstratesStand, AreUnaligned}
 use Rattle.queue_laws.specs.Started.{is_queued, is_left_in, AreStarted}
 use Rattle.queue_laws.specs.Steers.{Steers, is_executing, goes_on}
+
+-- ---- what is owed
+
+-- The route that is planned for a substrate: one step, as each recipe has, in any chamber of the tool. How many Dones it takes is the same in
+-- each.
+abbrev pub one_step : law.Floor → ℕ → List (List ℕ)
+one_step g n = g.chambers ∷ []
+
+-- the Dones that are still to come for all those that are kept and counted
+abbrev pub owed_to : (ℕ → Bool) → law.Floor → ℕ
+owed_to counted g = owed.owed_to (one_step g) counted g
+
+-- the commands for all those that are kept and counted
+abbrev pub commands_of : (ℕ → Bool) → law.Floor → ℕ
+commands_of counted g = owed.commands_of (λ n. 1) counted g
 
 -- ---- as it starts
 

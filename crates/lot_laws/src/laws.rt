@@ -36,7 +36,7 @@ ghost use Rattle.floor_model.specs.Machines.{floor_starts, floor_fired, floor_le
 ghost use Rattle.place_laws.specs.Picture.{picture};
 ghost use Rattle.place_laws.specs.Sound.{Sound};
 ghost use Rattle.floor_laws.specs.Rows.{is_common, listed};
-ghost use Rattle.owed_laws.specs.Owed.{owed_to, commands_of};
+ghost use Rattle.lot_laws.specs.Lot.{owed_to, commands_of};
 ghost use Rattle.owed_laws.specs.Undisturbed.{AreUnaligned, Undisturbed};
 ghost use Rattle.queue_laws.specs.Started.{AreStarted};
 ghost use Rattle.queue_laws.specs.Steers.{AreAutomatic, disturbs_process, disturbs_control, is_completion};

@@ -1,5 +1,5 @@
 -- The recipe of each substrate in a process job has a chamber of the tool.
-use Rattle.std.proofs.Common.{◌≡◌, ◌≤◌, ◌==◌, ℕ, nat_le, Bool, true, false, ◌||◌, if◌then◌else◌, List, [], ◌∷◌, ◌++◌, Option, Some, None, refl, arith}
+use Rattle.std.proofs.Common.{◌≡◌, ◌≤◌, ◌<◌, ◌==◌, ℕ, zero, suc, ◌+◌, nat_le, Bool, true, false, ◌||◌, if◌then◌else◌, List, [], ◌∷◌, ◌++◌, length, Option, Some, None, refl, arith}
 use Rattle.std.specs.List.{list_any}
 use Rattle.std.specs.Str.{bytes_eq}
 use Rattle.std.proofs.lemmas.Bool.{and_parts, or_left, or_right}
@@ -13,9 +13,11 @@ use Rattle.process_job.specs.declared.job.ProcessJob.{ProcessJob}
 use Rattle.floor_model.specs.declared.tracked.Substrate.{Substrate}
 use Rattle.floor_model.specs.Floor.{ToolFloor, substrate_numbered}
 use Rattle.floor_model.specs.Jobs.{job_of}
+use Rattle.floor_moves.specs.Floor.{step_at, next_step}
 use Rattle.floor_moves.specs.Valid.{HaveChambers}
 use Rattle.place_laws.specs.Picture.{picture, numbers_from, chambers_in, of_one, of_job}
 use Rattle.place_laws.proofs.ChamberLists.{is_chosen}
+use Rattle.place_laws.proofs.OneStep.{no_second, none_later}
 use Rattle.floor_laws.proofs.IssueTargets.{among_numbers}
 use Rattle.tool_events.specs.Configs.{is_usable, are_usable}
 use Rattle.work_laws.specs.Equipped.{HasRecipe, Equipped}
@@ -53,9 +55,12 @@ recipe_reaches count name (r ∷ rs) known usable =
     of true e here rest = here
     of false e here rest = rest e
 
--- so is that of each substrate in a process job
+-- so is that of each substrate in a process job, which is the one step of its route
 pub have_chambers : (f : ToolFloor) → Equipped f → HaveChambers (picture f)
-have_chambers f e n member = of_found (substrate_numbered n f.substrates) member where
+have_chambers f e = record {
+  reach = λ n i member least most. at n i member most;
+  rise = λ n i j c d member less here there. absurd (none_later (next_step n (picture f)) i j d less there);
+} where
   of_its : (s : Substrate) (o : Option ProcessJob) → job_of s f.jobs ≡ o → of_one false (λ (j : ProcessJob). true) o ≡ true → Reaches f.places.chambers (of_one [] (λ (j : ProcessJob). chambers_in (recipe_named j.recipe f.jobs.process.recipes)) o)
   of_its s None q is = absurd (cc)
   of_its s (Some j) q is = recipe_reaches f.places.chambers j.recipe f.jobs.process.recipes (each_found (HasRecipe f.jobs.process.recipes) (has_number s.job) f.jobs.process.kept j e.jobs q) e.recipes
@@ -63,3 +68,7 @@ have_chambers f e n member = of_found (substrate_numbered n f.substrates) member
   of_found : (o : Option Substrate) → of_one false (of_job false (λ j. true) f.jobs) o ≡ true → Reaches f.places.chambers (of_one [] (of_job [] (λ j. chambers_in (recipe_named j.recipe f.jobs.process.recipes)) f.jobs) o)
   of_found None is = absurd (cc)
   of_found (Some s) is = of_its s (job_of s f.jobs) refl is
+
+  at : (n i : ℕ) → (picture f).jobs.is_member n ≡ true → i < length ((picture f).jobs.route_of n) → Reaches f.places.chambers (step_at i ((picture f).jobs.route_of n))
+  at n zero member most = of_found (substrate_numbered n f.substrates) member
+  at n (suc i) member most = absurd (no_second (next_step n (picture f)) i (let more : i + 1 < length ((picture f).jobs.route_of n) = omega (arith, most) in more))

@@ -10,17 +10,19 @@ use Rattle.owed_laws.specs.Undisturbed.{AreUnaligned, Undisturbed}
 use Rattle.owed_laws.proofs.Totals.{sum_same}
 use Rattle.floor_moves.proofs.Agreeing.{place_back, busy_back, kept_back, finished_same}
 
+-- what is owed for one that is finished is the same however many steps are done
+none_asked : (route : List (List ℕ)) (i k : ℕ) (p : Option Loc) (b : Bool) → owed_by route i p true b ≡ owed_by route k p true b
+none_asked route i k None b = refl
+none_asked route i k (Some (slot p n)) b = refl
+none_asked route i k (Some aligner) b = refl
+none_asked route i k (Some arm) b = refl
+none_asked route i k (Some (chamber c)) b = refl
+
 module _ (g h : Floor) (a : Agree g h) where
   module _ (planned : ℕ → List (List ℕ)) where
     -- the steps are asked of one that is unfinished alone
     steps_same : (n : ℕ) (f : Bool) → is_one_of g.substrates n ≡ true → is_finished (g.processing n) ≡ f → owed_by (planned n) (h.steps_of n) (g.place_of n) f (g.is_aligned n) ≡ owed_by (planned n) (g.steps_of n) (g.place_of n) f (g.is_aligned n)
-    steps_same n true kept e = by (g.place_of n) where
-      by : (p : Option Loc) → owed_by (planned n) (h.steps_of n) p true (g.is_aligned n) ≡ owed_by (planned n) (g.steps_of n) p true (g.is_aligned n)
-      by None = refl
-      by (Some (slot p k)) = refl
-      by (Some aligner) = refl
-      by (Some arm) = refl
-      by (Some (chamber c)) = refl
+    steps_same n true kept e = none_asked (planned n) (h.steps_of n) (g.steps_of n) (g.place_of n) (g.is_aligned n)
     steps_same n false kept e = ap (λ (k : ℕ). owed_by (planned n) k (g.place_of n) false (g.is_aligned n)) (a.steps_of n kept e)
 
     owed_same : (n : ℕ) → is_one_of g.substrates n ≡ true → owed planned h n ≡ owed planned g n

@@ -37,25 +37,22 @@ finished-falls planned counted g n d state unnamed v u at unfinished due last en
     };
   },
   sum_falls counted (owed planned g) (owed planned (worked n state g)) n g.substrates v.places.distinct (v.places.kept n (chamber d) at) (u.jobs.members n (v.members.outside n (ap is_outside at)))
-      (falls ∙ ap (λ (x : ℕ). owes n (g.place_of n) (is_finished x) + 1) (sym (set_here n state g.processing)))
-      (λ k other. ap (λ (x : ℕ). owes k (g.place_of k) (is_finished x)) (sym (set_else n k state g.processing other))),
+      (falls ∙ ap (λ (x : ℕ). owed_by (planned n) (g.steps_of n) (g.place_of n) (is_finished x) (g.is_aligned n) + 1) (sym (set_here n state g.processing)))
+      (λ k other. ap (λ (x : ℕ). owed_by (planned k) (g.steps_of k) (g.place_of k) (is_finished x) (g.is_aligned k)) (sym (set_else n k state g.processing other))),
 )
   where
     was_unfinished : (k : ℕ) → is_finished (set n state g.processing k) ≡ false → is_finished (g.processing k) ≡ false
     was_unfinished k f = set_both n k state g.processing (λ x. is_finished x ≡ false → is_finished (g.processing k) ≡ false) (λ same e. absurd (cc)) (λ other e. e) f
 
-    abbrev owes : ℕ → Option Loc → Bool → ℕ
-    owes k p f = owed_by (planned k) (g.steps_of k) p f (g.is_aligned k)
-
-    in_it : (f t : Bool) → f ≡ false → t ≡ true → owes n (Some (chamber d)) f ≡ owes n (Some (chamber d)) t + 1
+    in_it : (f t : Bool) → f ≡ false → t ≡ true → owed_by (planned n) (g.steps_of n) (Some (chamber d)) f (g.is_aligned n) ≡ owed_by (planned n) (g.steps_of n) (Some (chamber d)) t (g.is_aligned n) + 1
     in_it true t e s = absurd (cc)
     in_it false false e s = absurd (cc)
     in_it false true e s =
         let three : 3 * (length (planned n) - g.steps_of n) ≡ 3 * 0 + 2 + 1 = omega (arith, last) in
         ap (λ (b : Bool). if b then 3 * (length (planned n) - g.steps_of n) else 3 * (length (planned n) - g.steps_of n) + 2) due ∙ three
 
-    falls : owes n (g.place_of n) (is_finished (g.processing n)) ≡ owes n (g.place_of n) (is_finished state) + 1
-    falls = subst (λ (p : Option Loc). owes n p (is_finished (g.processing n)) ≡ owes n p (is_finished state) + 1) (sym at) (in_it (is_finished (g.processing n)) (is_finished state) unfinished ends)
+    falls : owed_by (planned n) (g.steps_of n) (g.place_of n) (is_finished (g.processing n)) (g.is_aligned n) ≡ owed_by (planned n) (g.steps_of n) (g.place_of n) (is_finished state) (g.is_aligned n) + 1
+    falls = subst (λ (p : Option Loc). owed_by (planned n) (g.steps_of n) p (is_finished (g.processing n)) (g.is_aligned n) ≡ owed_by (planned n) (g.steps_of n) p (is_finished state) (g.is_aligned n) + 1) (sym at) (in_it (is_finished (g.processing n)) (is_finished state) unfinished ends)
 
 -- what stands undisturbed does so where a step is done, and the command of a module is closed
 pub stepped-stands : (counted : ℕ → Bool) (g : Floor) (m n : ℕ) → Undisturbed counted g → Undisturbed counted (stepped n m g)
@@ -123,14 +120,10 @@ module _ (planned : ℕ → List (List ℕ)) (counted : ℕ → Bool) (g : Floor
       in_job : g.jobs.is_member n ≡ true
       in_job = named_member m n c (pick n l) is t refl
 
-      -- the step that is planned next
-      abbrev next : List ℕ
-      next = step_at (g.steps_of n) (planned n)
-
       at : (y : Loc) → l ≡ y → g.place_of n ≡ Some y
       at y e = s.stands ∙ ap (λ (z : Loc). Some z) e
 
-      by : (y : Loc) → l ≡ y → (f : Bool) → is_finished (g.processing n) ≡ f → (a : Bool) → g.is_aligned n ≡ a → (left : ℕ) → owed_at (Some y) f next (if f then 0 else left) a ≡ owed_at (Some arm) f next (if f then 0 else left) a + 1
+      by : (y : Loc) → l ≡ y → (f : Bool) → is_finished (g.processing n) ≡ f → (a : Bool) → g.is_aligned n ≡ a → (left : ℕ) → owed_at (Some y) f (step_at (g.steps_of n) (planned n)) (if f then 0 else left) a ≡ owed_at (Some arm) f (step_at (g.steps_of n) (planned n)) (if f then 0 else left) a + 1
       by (slot p k) e true q a r left = absurd (let w = s.from_slot p k e in cc)
       by (slot p k) e false q true r left = absurd (let w = u.substrates.in_slot n p k (at (slot p k) e) q in cc)
       by (slot p k) e false q false r left = omega arith
@@ -159,11 +152,7 @@ module _ (planned : ℕ → List (List ℕ)) (counted : ℕ → Bool) (g : Floor
       in_job : g.jobs.is_member n ≡ true
       in_job = named_member m n c (place n l) is t refl
 
-      -- the step that is planned next
-      abbrev next : List ℕ
-      next = step_at (g.steps_of n) (planned n)
-
-      by : (y : Loc) → l ≡ y → (f : Bool) → is_finished (g.processing n) ≡ f → (a : Bool) → g.is_aligned n ≡ a → (left : ℕ) → owed_at (Some arm) f next (if f then 0 else left) a ≡ owed_at (Some y) f next (if f then 0 else left) a + 1
+      by : (y : Loc) → l ≡ y → (f : Bool) → is_finished (g.processing n) ≡ f → (a : Bool) → g.is_aligned n ≡ a → (left : ℕ) → owed_at (Some arm) f (step_at (g.steps_of n) (planned n)) (if f then 0 else left) a ≡ owed_at (Some y) f (step_at (g.steps_of n) (planned n)) (if f then 0 else left) a + 1
       by (slot p k) e true q true r left = omega arith
       by (slot p k) e false q a r left = absurd (let w = (s.to_slot p k e).1 in cc)
       by aligner e true q true r left = absurd (let w = s.to_aligner e in cc)
@@ -225,6 +214,10 @@ module _ (planned : ℕ → List (List ℕ)) (counted : ℕ → Bool) (g : Floor
     pub place-falls : (m n : ℕ) (l : Loc) (c : Command) → g.equipment m ≡ busy c → c.task ≡ place n l → OneLess planned counted g (moved n l m g)
     place-falls m n l c is t = done_place-falls m n l c is t (λ d e f. in_planned n (g.steps_of n) d true (named_member m n c (place n l) is t refl) f (((v.commands.places m n l c is t).to_chamber d e).2 f))
 
+    -- what is owed for one of which so many steps are done
+    abbrev after : ℕ → ℕ → ℕ
+    after k i = owed_by (planned k) i (g.place_of k) (is_finished (g.processing k)) (g.is_aligned k)
+
     -- Done of a Process whose step isn't the last: that is done
     pub stepped-falls : (m n : ℕ) (c : Command) → g.equipment m ≡ busy c → c.task ≡ process n → HaveChambers g → OneLess planned counted g (stepped n m g)
     stepped-falls m n c is t reach = (
@@ -239,10 +232,6 @@ module _ (planned : ℕ → List (List ℕ)) (counted : ℕ → Bool) (g : Floor
 
         in_job : g.jobs.is_member n ≡ true
         in_job = named_member m n c (process n) is t refl
-
-        -- what is owed for one of which so many steps are done
-        abbrev after : ℕ → ℕ → ℕ
-        after k i = owed_by (planned k) i (g.place_of k) (is_finished (g.processing k)) (g.is_aligned k)
 
         in_it : (i : ℕ) (b : Bool) → is_one_of (step_at i (planned n)) s.0 ≡ b → after n i ≡ (if b then 3 * (length (planned n) - i) else 3 * (length (planned n) - i) + 2)
         in_it i b e =
@@ -275,8 +264,7 @@ module _ (planned : ℕ → List (List ℕ)) (counted : ℕ → Bool) (g : Floor
         let closed : Undisturbed counted (turned m idle g) = record { jobs = step.jobs; substrates = step.substrates } in
         let one : length (planned n) ≡ g.steps_of n + 1 = sym (last ∙ ap (λ (r : List (List ℕ)). length r) (fits n in_job s.3)) in
         let less : OneLess planned counted (turned m idle g) (worked n 2 (turned m idle g)) = finished-falls planned counted (turned m idle g) n s.0 2 unnamed valid closed s.2 s.3 (in_planned n (g.steps_of n) s.0 true in_job s.3 s.4) one refl in
-        let agrees = processed_agrees (turned m idle g) n in
-        (
+        let agrees = processed_agrees (turned m idle g) n in (
           agree-undisturbed (worked n 2 (turned m idle g)) (processed n (turned m idle g)) agrees counted (finished-keeps (turned m idle g) n 2 refl unnamed valid) less.0,
           ap (λ (k : ℕ). k + 1) (agree-owed (worked n 2 (turned m idle g)) (processed n (turned m idle g)) agrees planned counted) ∙ less.1,
         )

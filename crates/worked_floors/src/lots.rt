@@ -3,8 +3,7 @@
 ghost use Rattle.std.specs.Prelude.{◌≡◌, [], ◌∷◌, true, false};
 ghost use Rattle.tool_tasks.specs.declared.words.JobWord.TheVariants.{Pause, Stop, Abort};
 ghost use Rattle.place_laws.specs.Picture.{picture};
-ghost use Rattle.owed_laws.specs.Owed.{commands_of};
-ghost use Rattle.lot_laws.specs.Lot.{counted_of};
+ghost use Rattle.lot_laws.specs.Lot.{counted_of, commands_of};
 ghost use Rattle.gem_model.specs.Run.{after_all};
 ghost use Rattle.history_laws.specs.Completes.{control_of, has_completed, dones};
 ghost use Rattle.history_laws.specs.Calm.{is_calm};

@@ -175,7 +175,7 @@ module _ (f : ToolFloor) (ms : List Material) (change : Substrate → Substrate)
       carrier = λ n e. carrier n (member_tells (map change f.substrates) w n (λ j. true) e);
       here = λ n e. here n (member_tells (map change f.substrates) w n (λ j. true) e);
       complete = λ n e done. over n (member_tells (map change f.substrates) w n (λ j. is_complete j.states.state) done);
-      left = λ n e unfinished. one_left _;
+      left = λ n e unfinished. one_left (of_one [] (of_job [] (λ j. chambers_in (recipe_named j.recipe w.process.recipes)) w) (substrate_numbered n (map change f.substrates)));
     } where
       carrier_is : (n : ℕ) (s : Substrate) → substrate_numbered n f.substrates ≡ Some s → (picture f).carrier_of n ≡ s.carrier
       carrier_is n s e = ap (of_one 0 (λ (s : Substrate). s.carrier)) e

@@ -7,9 +7,10 @@ use Rattle.tool_tasks.specs.declared.recipes.Recipe.{Recipe}
 use Rattle.floor_model.specs.Floor.{opening}
 use Rattle.floor_moves.specs.Floor.{idle, opening as opening_by_numbers}
 use Rattle.floor_moves.specs.Agree.{Agree}
-use Rattle.floor_moves.specs.Valid.{Valid}
-use Rattle.floor_moves.proofs.Agreeing.{agree-keeps}
-use Rattle.floor_moves.proofs.Carrying.{opening-valid}
+use Rattle.floor_moves.specs.Carriers.{with_jobs}
+use Rattle.floor_moves.specs.Valid.{Valid, MaySay}
+use Rattle.floor_moves.proofs.Agreeing.{alike_same, agree-keeps}
+use Rattle.floor_moves.proofs.Carrying.{opening-valid, jobs_say-keeps}
 use Rattle.place_laws.specs.Picture.{picture, module_of, numbers_from}
 
 module _ (ports chambers : ℕ) (recipes : List Recipe) where
@@ -22,7 +23,24 @@ module _ (ports chambers : ℕ) (recipes : List Recipe) where
   all_idle zero = refl
   all_idle (suc n) = one_idle (2 + min chambers 253) n
 
-  begins : Agree (opening_by_numbers (numbers_from 1 chambers)) (picture (opening ports chambers recipes))
+  -- nobody is in a job
+  begins_so : MaySay (picture (opening ports chambers recipes)).jobs (opening_by_numbers (numbers_from 1 chambers))
+  begins_so = record {
+    right = record {
+      outside = λ n e. absurd (cc);
+      named = λ m c e. absurd (cc);
+      starting = λ n e. absurd (cc);
+      kept = λ n e. absurd (cc);
+      carrier = λ n e. absurd (cc);
+      here = λ n e. absurd (cc);
+      complete = λ n e f. absurd (cc);
+      left = λ n e f. absurd (cc);
+    };
+    outside_same = λ n e. absurd (cc);
+    named_same = λ m c e. absurd (cc);
+  }
+
+  begins : Agree (with_jobs (picture (opening ports chambers recipes)).jobs (opening_by_numbers (numbers_from 1 chambers))) (picture (opening ports chambers recipes))
   begins = record {
     substrates = refl;
     next_substrate = refl;
@@ -37,20 +55,11 @@ module _ (ports chambers : ℕ) (recipes : List Recipe) where
     present_at = λ c. refl;
     is_verified = λ c e. refl;
     access = λ c e. refl;
-    jobs = record {
-      is_member = λ n. refl;
-      may_start = λ n. refl;
-      is_stopping = λ n. refl;
-      is_aborting = λ n. refl;
-      is_complete = λ n. refl;
-      route_of = λ n. refl;
-      names_carrier = λ c p here. refl;
-      is_marked = λ c p here. refl;
-    };
+    jobs = alike_same _ _;
     chambers = refl;
     equipment = all_idle;
     next_command = refl;
   }
 
   pub opening-keeps : Valid (picture (opening ports chambers recipes))
-  opening-keeps = agree-keeps _ _ begins (opening-valid (numbers_from 1 chambers))
+  opening-keeps = agree-keeps _ _ begins (jobs_say-keeps _ (picture (opening ports chambers recipes)).jobs begins_so (opening-valid (numbers_from 1 chambers)))

@@ -6,10 +6,12 @@
 
 mod chambers;
 mod recipes;
+mod routes;
 mod task;
 mod words;
 
 pub use chambers::{RecipeChambers, has_chamber};
 pub use recipes::{Recipe, Recipes};
+pub use routes::Route;
 pub use task::{Command, Task};
 pub use words::JobWord;

@@ -5,6 +5,5 @@ pub mod Taking
 pub mod ReaderPosts
 pub mod ReaderReads
 pub mod ReaderDone
-pub mod ScriptReading
 pub mod Operating
 pub mod ScriptStanding

@@ -17,13 +17,13 @@ use Rattle.actors.specs.Ends.{ArePosted, LastEnded, NoneEnded, NoneBehindEnded, 
 use Rattle.actors.specs.Scripts.{Script, AllSaid, OutsideGrammar, QuitAt, behind, line_events, line_says, lines_say, script_of}
 use Rattle.actors.specs.Operates.{OperatorDid, OperatorEnds, SaidBy, ScriptOver, script_bytes}
 use Rattle.actors.specs.Operating.{DeskTold, Posted, Refused, PostsAll, GivesUp, TakesLine, TakesLast, Quits, EndsAt, counts_of}
-use Rattle.actors.specs.ScriptReads.{ScriptRead, SourceTold, IsPart, NextLine}
+use Rattle.source_lines.specs.Reads.{LinesRead, SourceTold, IsPart, NextLine}
 use Rattle.actors.specs.declared.end.ActorEnd.{ActorEnd}
 use Rattle.actors.specs.declared.end.ActorEnd.TheVariants as end
-use Rattle.actors.specs.declared.no_line.NoLine.{NoLine}
-use Rattle.actors.specs.declared.no_line.NoLine.TheVariants as no_line
+use Rattle.source_lines.specs.declared.no_line.NoLine.{NoLine}
+use Rattle.source_lines.specs.declared.no_line.NoLine.TheVariants as no_line
 use Rattle.actors.proofs.Operating.{one_post}
-use Rattle.actors.proofs.ScriptReading.{Taken-nothing, Taken-more, over_whole, IsOver-since}
+use Rattle.source_lines.proofs.Reading.{Taken-nothing, Taken-more, over_whole, IsOver-since}
 
 -- ---- lists of posts
 
@@ -476,7 +476,7 @@ long_ends Over text kept all part behind_it number start now new source source' 
 -- ---- the whole way
 
 -- what was read up to now, and where the operator stands in it
-pub record Going (start now : DeskTold) (source source' : SourceTold) (lines : ScriptRead) (number : ℕ) : Type 0 where
+pub record Going (start now : DeskTold) (source source' : SourceTold) (lines : LinesRead) (number : ℕ) : Type 0 where
   pub text : List ℕ
   pub taken : Taken source.left source'.left text
   pub size : lines.count ≡ length text
@@ -498,7 +498,7 @@ Going-open start source = record {
   numbered = omega arith;
 }
 
-pub Going-line : (start now mid : DeskTold) (source source' source'' : SourceTold) (lines lines' : ScriptRead) (number : ℕ) → Going start now source source' lines number → NextLine lines lines' source' source'' (Ok tt) → TakesLine (script_line_of lines'.line) number now mid (Ok tt) → Going start mid source source'' lines' (number + 1)
+pub Going-line : (start now mid : DeskTold) (source source' source'' : SourceTold) (lines lines' : LinesRead) (number : ℕ) → Going start now source source' lines number → NextLine lines lines' source' source'' (Ok tt) → TakesLine (script_line_of lines'.line) number now mid (Ok tt) → Going start mid source source'' lines' (number + 1)
 Going-line start now mid source source' source'' lines lines' number g next takes =
     let (is, one, fits) = next.gives in
     record {
@@ -517,7 +517,7 @@ pub record Done (start new : DeskTold) (source source' : SourceTold) (count : �
   pub did : OperatorDid source.left source'.left (counts_of start source) (counts_of new source') start.posts new.posts count e
   pub unfailed : e ≢ end.ReadFault → source'.faults ≡ source.faults
 
-did : (start now new : DeskTold) (source source' source'' : SourceTold) (lines lines' : ScriptRead) (number : ℕ) (result : Result (Unit {0}) NoLine) (e : ActorEnd) (g : Going start now source source' lines number) (next : NextLine lines lines' source' source'' result) →
+did : (start now new : DeskTold) (source source' source'' : SourceTold) (lines lines' : LinesRead) (number : ℕ) (result : Result (Unit {0}) NoLine) (e : ActorEnd) (g : Going start now source source' lines number) (next : NextLine lines lines' source' source'' result) →
     EndsSo e (ScriptOver source.left (g.text ++ next.more) (counts_of start source) (counts_of new source'')) (g.text ++ next.more) start new source source'' →
     (e ≢ end.ReadFault → result ≢ Err no_line.Fault) → Done start new source source'' lines'.count e
 did start now new source source' source'' lines lines' number result e g next so other = record {
@@ -539,7 +539,7 @@ did start now new source source' source'' lines lines' number result e g next so
 abbrev ScriptOver-of : List ℕ → DeskTold → DeskTold → SourceTold → SourceTold → Type 0
 ScriptOver-of text start new source source' = ScriptOver source.left text (counts_of start source) (counts_of new source')
 
-pub Done-line : (start now new : DeskTold) (source source' source'' : SourceTold) (lines lines' : ScriptRead) (number : ℕ) (e : ActorEnd) → Going start now source source' lines number → NextLine lines lines' source' source'' (Ok tt) → TakesLine (script_line_of lines'.line) number now new (Err e) → Done start new source source'' lines'.count e
+pub Done-line : (start now new : DeskTold) (source source' source'' : SourceTold) (lines lines' : LinesRead) (number : ℕ) (e : ActorEnd) → Going start now source source' lines number → NextLine lines lines' source' source'' (Ok tt) → TakesLine (script_line_of lines'.line) number now new (Err e) → Done start new source source'' lines'.count e
 Done-line start now new source source' source'' lines lines' number e g next takes =
     let (is, one, fits) = next.gives in
     let all = text_on g.text lines.kept g.stands.whole next.more (lines'.line ++ 10 ∷ lines'.kept) g.stands.text_is is in
@@ -548,13 +548,13 @@ Done-line start now new source source' source'' lines lines' number e g next tak
     (λ not e. cc e)
 
 -- a part of a line is the last of what was read
-part_is : (start now : DeskTold) (lines lines' : ScriptRead) (text more : List ℕ) (number : ℕ) (s : Stands text lines.kept number start now) → IsPart (lines.kept ++ more) lines' → text ++ more ≡ s.whole ++ lines'.line
+part_is : (start now : DeskTold) (lines lines' : LinesRead) (text more : List ℕ) (number : ℕ) (s : Stands text lines.kept number start now) → IsPart (lines.kept ++ more) lines' → text ++ more ≡ s.whole ++ lines'.line
 part_is start now lines lines' text more number s part = text_on text lines.kept s.whole more lines'.line s.text_is (sym part.line)
 
-part_one : (bytes : List ℕ) (lines' : ScriptRead) → IsPart bytes lines' → IsOneLine lines'.line
+part_one : (bytes : List ℕ) (lines' : LinesRead) → IsPart bytes lines' → IsOneLine lines'.line
 part_one bytes lines' part = subst IsOneLine (sym part.line) part.one
 
-pub Done-end : (why : NoLine) (start now new : DeskTold) (source source' source'' : SourceTold) (lines lines' : ScriptRead) (number : ℕ) (e : ActorEnd) → Going start now source source' lines number → NextLine lines lines' source' source'' (Err why) → EndsAt why (script_line_of lines'.line) number now new e → Done start new source source'' lines'.count e
+pub Done-end : (why : NoLine) (start now new : DeskTold) (source source' source'' : SourceTold) (lines lines' : LinesRead) (number : ℕ) (e : ActorEnd) → Going start now source source' lines number → NextLine lines lines' source' source'' (Err why) → EndsAt why (script_line_of lines'.line) number now new e → Done start new source source'' lines'.count e
 Done-end no_line.End start now new source source' source'' lines lines' number e g next takes =
     let (part, over) = next.gives in
     let since = IsOver-since source source' source'' g.text g.taken g.ends next.ends_stay over in
@@ -600,13 +600,13 @@ Done-end no_line.NoMemory start now new source source' source'' lines lines' num
     (λ not e. cc e))
 
 -- what is left to read and to take becomes less
-pub Going-smaller : (source source' : SourceTold) (lines lines' : ScriptRead) → NextLine lines lines' source source' (Ok tt) → (script_bytes - lines'.count) + length lines'.kept < (script_bytes - lines.count) + length lines.kept
+pub Going-smaller : (source source' : SourceTold) (lines lines' : LinesRead) → NextLine lines lines' source source' (Ok tt) → (script_bytes - lines'.count) + length lines'.kept < (script_bytes - lines.count) + length lines.kept
 Going-smaller source source' lines lines' next =
     let (is, one, fits) = next.gives in
     omega (arith, ap length is, length-append lines.kept next.more, length-append lines'.line (10 ∷ lines'.kept), next.count, next.within)
 
 -- the number of a line is no greater than what was read
-pub Going-number : (start now : DeskTold) (source source' : SourceTold) (lines : ScriptRead) (number : ℕ) → Going start now source source' lines number → number < 4294967298
+pub Going-number : (start now : DeskTold) (source source' : SourceTold) (lines : LinesRead) (number : ℕ) → Going start now source source' lines number → number < 4294967298
 Going-number start now source source' lines number g = omega (arith, g.numbered, g.within)
 
 -- ---- a line, by how it is read

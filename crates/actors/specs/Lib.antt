@@ -6,5 +6,4 @@ pub mod Reads
 pub mod Scripts
 pub mod Operates
 pub mod ReaderSteps
-pub mod ScriptReads
 pub mod Operating

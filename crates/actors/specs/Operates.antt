@@ -6,6 +6,7 @@ use Rattle.tool_events.specs.declared.entry.Post.{Post}
 use Rattle.tool_events.specs.declared.event.Event.{Event}
 use Rattle.text_lines.specs.Lines.{whole_lines}
 use Rattle.line_grammar.specs.Texts.{IsFront, NumberEnded, EndedLines}
+use Rattle.source_lines.specs.Limits.{source_bytes}
 use Rattle.actors.specs.Ends.{ArePosted, LastEnded, NoneBehindEnded, QuitPosted, QuitPostedOr}
 use Rattle.actors.specs.Reads.{ReaderCounts}
 use Rattle.actors.specs.Scripts.{AllSaid, OutsideGrammar, QuitAt, script_of}
@@ -14,7 +15,7 @@ use Rattle.actors.specs.declared.end.ActorEnd.TheVariants as end
 
 -- so many bytes of a script are read at most (this tool's profile, limits)
 abbrev pub script_bytes : ℕ
-script_bytes = 4294967296
+script_bytes = source_bytes
 
 -- the script was read to its end: where it tells them, these bytes are all that it had left
 abbrev pub ScriptOver : Option (List ℕ) → List ℕ → ReaderCounts → ReaderCounts → Type 0

@@ -11,11 +11,11 @@ use Rattle.line_grammar.specs.Reading.{line_bytes}
 use Rattle.actors.specs.Ends.{ArePosted, LastEnded, NoneEnded, NoneBehindEnded, QuitPosted, QuitPostedOr}
 use Rattle.actors.specs.Reads.{ReaderCounts}
 use Rattle.actors.specs.Scripts.{line_events}
-use Rattle.actors.specs.ScriptReads.{SourceTold}
+use Rattle.source_lines.specs.Reads.{SourceTold}
 use Rattle.actors.specs.declared.end.ActorEnd.{ActorEnd}
 use Rattle.actors.specs.declared.end.ActorEnd.TheVariants as end
-use Rattle.actors.specs.declared.no_line.NoLine.{NoLine}
-use Rattle.actors.specs.declared.no_line.NoLine.TheVariants as no_line
+use Rattle.source_lines.specs.declared.no_line.NoLine.{NoLine}
+use Rattle.source_lines.specs.declared.no_line.NoLine.TheVariants as no_line
 
 -- what a desk tells: its posts, and how often one was answered Full and NoMemory
 pub record DeskTold : Type 0 where

@@ -9,10 +9,8 @@
 mod clock;
 mod end;
 mod module;
-mod no_line;
 mod operator;
 mod reader;
-mod script;
 mod writer;
 
 pub use clock::{keep_time, look};

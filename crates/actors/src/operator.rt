@@ -7,15 +7,14 @@ ghost use Rattle.line_grammar.specs.Texts.{is_quit};
 ghost use Rattle.line_grammar.specs.declared.line.Line.TheVariants as line;
 ghost use Rattle.actors.specs.Operates.{OperatorDid};
 ghost use Rattle.actors.specs.Operating.{Posts, PostsLine, GivesUp, TakesLine, TakesLast, Quits, EndsAt, after_answer, desk_told, counts_of};
-ghost use Rattle.actors.specs.ScriptReads.{source_told};
+ghost use Rattle.source_lines.specs.Reads.{source_told};
 ghost use Rattle.actors.specs.declared.end.ActorEnd.TheVariants as end;
 
 use crate::end::ActorEnd;
-use crate::no_line::NoLine;
-use crate::script::ScriptLines;
 use gem_ids::{Moment, PortNo};
 use line_grammar::{Line, LineFault};
 use outside::{Gate, Point, Source};
+use source_lines::{NoLine, SourceLines};
 use std::alloc::Global;
 use std::sync::Wait;
 use tool_events::{Answer, Desk, Event, OperCmd, PostFault};
@@ -54,7 +53,7 @@ pub fn operate<W: Wait, D: Desk, S: Source, G: Gate>(
         (D.posts desk.old) (D.posts desk.new) result.1 result.0 }
     ensures unfailed { result.0 ≢ end.ReadFault → S.faults script.new ≡ S.faults script.old }
 {
-    let mut lines = ScriptLines::new(alloc);
+    let mut lines = SourceLines::new(alloc);
     let end = post_lines(rt, desk, script, gate, &mut lines);
     (end, lines.count())
 }
@@ -65,7 +64,7 @@ fn post_lines<W: Wait, D: Desk, S: Source, G: Gate>(
     desk: &mut D,
     script: &mut S,
     gate: &G,
-    lines: &mut ScriptLines,
+    lines: &mut SourceLines,
 ) -> ActorEnd
     requires { lines.old ≡ record { line = []; kept = []; count = 0 } }
     ensures did { OperatorDid (S.left script.old) (S.left script.new)

@@ -10,8 +10,8 @@ use Rattle.gem_model.specs.Sizes.{bytes_of}
 use Rattle.history_parts.specs.CoreView.{CoreView}
 use Rattle.history_laws.specs.Recorded.{Recorded}
 use Rattle.history_laws.proofs.Recording.{recorded-none, recorded-after}
-use Rattle.line_feeding.specs.declared.ended.Cause.{Cause}
-use Rattle.line_feeding.specs.declared.ended.Cause.TheVariants as cause
+use Rattle.run_causes.specs.declared.cause.Cause.{Cause}
+use Rattle.run_causes.specs.declared.cause.Cause.TheVariants as cause
 use Rattle.line_feeding.specs.declared.ended.SessionNote.{SessionNote}
 use Rattle.line_feeding.specs.Notes.{AreNotes}
 use Rattle.driving.proofs.Fronts.{IsFront-same}

@@ -8,8 +8,8 @@ use Rattle.gem_model.specs.State.{opening}
 use Rattle.gem_model.specs.Run.{after_all}
 use Rattle.gem_model.specs.Sizes.{bytes_of}
 use Rattle.history_laws.specs.Recorded.{Recorded}
-use Rattle.line_feeding.specs.declared.ended.Cause.{Cause}
-use Rattle.line_feeding.specs.declared.ended.Cause.TheVariants as cause
+use Rattle.run_causes.specs.declared.cause.Cause.{Cause}
+use Rattle.run_causes.specs.declared.cause.Cause.TheVariants as cause
 use Rattle.line_feeding.specs.declared.ended.SessionNote.{SessionNote}
 use Rattle.driving.specs.Limits.{IsFullAt}
 use Rattle.line_feeding.specs.Notes.{AreNotes}

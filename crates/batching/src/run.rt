@@ -2,8 +2,8 @@
 ghost use Rattle.std.specs.Prelude.{◌≡◌, ◌≢◌, ◌≤◌, [], true, OnOk};
 ghost use Rattle.outside.specs.Counts.{Failed};
 ghost use Rattle.tool_events.specs.Configs.{IsConfig};
-ghost use Rattle.line_feeding.specs.declared.ended.Cause.TheVariants as cause;
-ghost use Rattle.line_feeding.specs.Status.{status_of};
+ghost use Rattle.run_causes.specs.declared.cause.Cause.TheVariants as cause;
+ghost use Rattle.run_causes.specs.Status.{status_of};
 ghost use Rattle.batch_model.specs.Batch.{answers, begun, carriers_made, then_made};
 ghost use Rattle.batching.specs.Batched.{BatchedUnder};
 ghost use Rattle.batching.specs.Making.{batch_seen, standing, Makes};

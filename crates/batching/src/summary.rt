@@ -1,7 +1,7 @@
 //! The summary of a batch, and how the batch ends.
 ghost use Rattle.std.specs.Prelude.{◌≡◌, ◌≢◌, ◌++◌, Ok, IfOk, OnOk};
 ghost use Rattle.outside.specs.Counts.{Failed};
-ghost use Rattle.line_feeding.specs.declared.ended.Cause.TheVariants as cause;
+ghost use Rattle.run_causes.specs.declared.cause.Cause.TheVariants as cause;
 ghost use Rattle.batch_model.specs.Summary.{number_line, summary_of};
 ghost use Rattle.batching.specs.Batched.{Summed};
 ghost use Rattle.batching.specs.Ending.{EndsAs};

@@ -1,3 +1,5 @@
+pub mod Taken
 pub mod ChamberSets
 pub mod One
+pub mod Steps
 pub mod Usable

@@ -1,6 +1,6 @@
 -- The rules of a configuration, as they are printed: the number of each, its keys, what they may say, and what is taken where
 -- they are absent (this tool's profile, configuration).
-use Rattle.std.specs.Prelude.{◌≡◌, ℕ, Bool, false, if◌then◌else◌, List, [], ◌∷◌, map, codes, Option, Some, None, option_map}
+use Rattle.std.specs.Prelude.{◌≡◌, ◌==◌, ℕ, Bool, false, if◌then◌else◌, List, [], ◌∷◌, map, codes, Option, Some, None, option_map}
 use Rattle.std.specs.Option.{option_or}
 use Rattle.gem_ids.specs.Moments.{last_moment}
 use Rattle.toml.specs.Data.{Data, Members, as_bool, get_member}
@@ -17,7 +17,7 @@ use Rattle.configuration.specs.Values.{number_in, text_of, word_of, streams_of, 
 use Rattle.configuration.specs.Recipes.{recipes_of, recipe_for_all}
 
 -- what the keys may say: a number of at least and at most so much, a text of at most so many bytes, a truth, one of some words,
--- a list of streams, a list of recipes for so many chambers
+-- a list of streams, a list of recipes as a version has them, for so many chambers
 pub data Kind : Type 0 where
   number : ℕ → ℕ → Kind
   text : ℕ → Kind
@@ -25,7 +25,7 @@ pub data Kind : Type 0 where
   communication : List (List ℕ × CommStart) → Kind
   control : List (List ℕ × ControlStart) → Kind
   streams : Kind
-  recipes : ℕ → Kind
+  recipes : ℕ → ℕ → Kind
 
 -- the values of a kind
 abbrev pub Value : Kind → Type 0
@@ -35,7 +35,7 @@ Value truth = Bool
 Value (communication words) = CommStart
 Value (control words) = ControlStart
 Value streams = SpoolStreams
-Value (recipes chambers) = List Recipe
+Value (recipes version chambers) = List Recipe
 
 -- the value that TOML data say, where they are of the kind
 abbrev pub said : (k : Kind) → Data → Option (Value k)
@@ -45,7 +45,7 @@ said truth d = as_bool d
 said (communication words) d = word_of words d
 said (control words) d = word_of words d
 said streams d = streams_of d
-said (recipes chambers) d = recipes_of chambers d
+said (recipes version chambers) d = recipes_of version chambers d
 
 -- a row of the table: the rule, the key, what it may say, what is taken where it is absent, and the field that it fills
 pub data Row : Type 0 where
@@ -64,18 +64,31 @@ control_words =
     ∷ ((codes "online_remote", begin.OnlineRemote)
     ∷ [])))
 
--- The rules 1 to 17 for a plant of so many chambers. Rule 0 is that the text is a table of TOML, and rule 18 that it has no other
--- key (this tool's profile, configuration).
-unfoldable pub rules : ℕ → List Row
-rules n =
-    row 1 (codes "version") (number 1 1) 1 (λ c. c.version)
+-- The newest version that is read: 1 for now, since the tool's substrates count no steps of a route; all else is as version 2 wants
+-- it (this tool's profile, configuration).
+abbrev pub newest_version : ℕ
+newest_version = 1
+
+-- the greatest number of chambers of a version (this tool's profile, configuration)
+abbrev pub most_chambers : ℕ → ℕ
+most_chambers version = if version == 1 then 2 else 8
+
+-- the greatest number of load ports of a version (this tool's profile, configuration)
+abbrev pub most_ports : ℕ → ℕ
+most_ports version = if version == 1 then 2 else 4
+
+-- The rules 1 to 17 of a version, for a plant of so many chambers. Rule 0 is that the text is a table of TOML, and rule 18 that it has
+-- no other key (this tool's profile, configuration).
+unfoldable pub rules : ℕ → ℕ → List Row
+rules version chambers =
+    row 1 (codes "version") (number 1 newest_version) 1 (λ c. c.version)
     ∷ (row 2 (codes "device") (number 0 32767) 0 (λ c. c.device)
     ∷ (row 3 (codes "mdln") (text 20) (codes "GEM300") (λ c. c.mdln)
     ∷ (row 4 (codes "softrev") (text 20) (codes "1.0.00") (λ c. c.softrev)
     ∷ (row 5 (codes "communication") (communication communication_words) start.Enabled (λ c. c.communication)
     ∷ (row 6 (codes "control") (control control_words) begin.OnlineRemote (λ c. c.control)
-    ∷ (row 7 (codes "chambers") (number 1 2) 2 (λ c. c.chambers)
-    ∷ (row 8 (codes "ports") (number 1 2) 2 (λ c. c.ports)
+    ∷ (row 7 (codes "chambers") (number 1 (most_chambers version)) 2 (λ c. c.chambers)
+    ∷ (row 8 (codes "ports") (number 1 (most_ports version)) 2 (λ c. c.ports)
     ∷ (row 9 (codes "spool_capacity") (number 1 65536) 1000 (λ c. c.spool_capacity)
     ∷ (row 10 (codes "spool_streams") streams (record { five = false; six = false }) (λ c. c.spool_streams)
     ∷ (row 11 (codes "overwrite") truth false (λ c. c.overwrite)
@@ -88,7 +101,7 @@ rules n =
     ∷ (row 13 (codes "max_entries") (number 1 4000000) 4000000 (λ c. c.max_entries)
     ∷ (row 14 (codes "max_bytes") (number 0 536870912) 536870912 (λ c. c.max_bytes)
     ∷ (row 15 (codes "start_moment") (number 0 last_moment) 0 (λ c. c.start_moment.0)
-    ∷ (row 16 (codes "recipes") (recipes n) (recipe_for_all n) (λ c. c.recipes)
+    ∷ (row 16 (codes "recipes") (recipes version chambers) (recipe_for_all chambers) (λ c. c.recipes)
     ∷ (row 17 (codes "tcp_port") (number 1 65535) 5000 (λ c. c.tcp_port)
     ∷ [])))))))))))))))))))))
 
@@ -130,13 +143,17 @@ abbrev pub AreGiven : Members → Config → List Row → Type 0
 AreGiven ms c [] = Unit {0}
 AreGiven ms c (row rule key kind default field ∷ rows) = (field c ≡ taken default (said_at kind key ms)) × AreGiven ms c rows
 
+-- the version of a table
+abbrev pub version_of : Members → ℕ
+version_of ms = taken 1 (said_at (number 1 newest_version) (codes "version") ms)
+
 -- the chambers that a table gives the plant
 abbrev pub chambers_of : Members → ℕ
-chambers_of ms = taken 2 (said_at (number 1 2) (codes "chambers") ms)
+chambers_of ms = taken 2 (said_at (number 1 (most_chambers (version_of ms))) (codes "chambers") ms)
 
 -- the rules of a table
 abbrev pub rules_for : Members → List Row
-rules_for ms = rules (chambers_of ms)
+rules_for ms = rules (version_of ms) (chambers_of ms)
 
 -- the least rule from 1 to 18 that a table breaks, with its key
 abbrev pub least_broken : Members → Option ConfigFault

@@ -1,10 +1,11 @@
 //! The reader of a table, row by row.
 ghost use Rattle.std.specs.Prelude.{◌≡◌, ℕ, ◌≤◌, Bool, true, List, Option, length, IsTrue, Some};
 ghost use Rattle.toml.specs.View.{table_view};
-ghost use Rattle.tool_events.specs.Configs.{are_usable, IsConfig};
+ghost use Rattle.tool_tasks.specs.Chambers.{last_chamber};
+ghost use Rattle.tool_events.specs.Configs.{are_usable, have_one_step, IsConfig};
 ghost use Rattle.configuration.specs.Values.{is_plain};
 ghost use Rattle.configuration.specs.Recipes.{recipe_for_all};
-ghost use Rattle.configuration.specs.Rules.{number, text, truth, communication, control, streams, recipes, communication_words, control_words, said_at, taken, Noted, broken_after, AreGiven, rules_for};
+ghost use Rattle.configuration.specs.Rules.{number, text, truth, communication, control, streams, recipes, communication_words, control_words, most_chambers, most_ports, said_at, taken, Noted, broken_after, AreGiven, rules_for};
 
 use crate::fault::ConfigFault;
 use crate::recipes::{recipe_for_all, recipes_of, value_at};
@@ -19,6 +20,9 @@ const NO_STREAMS: SpoolStreams = SpoolStreams {
     five: false,
     six: false,
 };
+
+// The newest version: 1 for now, since the tool's substrates count no steps of a route.
+const NEWEST_VERSION: u64 = 1;
 
 // The last moment of the year 9999.
 const LAST_MOMENT: u64 = 25_245_561_599_999;
@@ -145,25 +149,28 @@ impl Reader<'_> {
         take(broken, rule, key, said, default)
     }
 
-    // A list of recipes for so many chambers.
-    #[tactic(auto, using(crate::proofs::Usable::taken_usable))]
+    // A list of recipes as a version has them, for so many chambers.
     fn recipes(
         &self,
         broken: &mut Broken,
         rule: u8,
         key: &str,
+        version: u8,
         chambers: u8,
         default: Recipes,
     ) -> Recipes
         requires key { IsTrue (is_plain 80 key.now) }
-        requires chambers { chambers ≤ 2 }
+        requires version { 1 ≤ version }
+        requires chambers { chambers ≤ last_chamber }
         requires usable { are_usable chambers default ≡ true }
-        ensures value { result ≡ taken default (said_at (recipes chambers) key.now (table_view self.now.table.now)) }
+        requires one_step { have_one_step default ≡ true }
+        ensures value { result ≡ taken default (said_at (recipes version chambers) key.now (table_view self.now.table.now)) }
         ensures usable { are_usable chambers result ≡ true }
-        ensures broken { Noted broken.old broken.new rule key.now (said_at (recipes chambers) key.now (table_view self.now.table.now)) }
+        ensures one_step { version ≤ 1 → have_one_step result ≡ true }
+        ensures broken { Noted broken.old broken.new rule key.now (said_at (recipes version chambers) key.now (table_view self.now.table.now)) }
     {
         let said = match value_at(self.table, key) {
-            Some(value) => Some(recipes_of(value, chambers)),
+            Some(value) => Some(recipes_of(value, version, chambers)),
             None => None,
         };
         take(broken, rule, key, said, default)
@@ -175,14 +182,14 @@ impl Reader<'_> {
         ensures broken { broken.new ≡ broken_after broken.old (rules_for (table_view self.now.table.now)) (table_view self.now.table.now) }
         ensures bounds { IsConfig result }
     {
-        let version = self.number(broken, 1, "version", 1, 1, 1) as u8;
+        let version = self.number(broken, 1, "version", 1, NEWEST_VERSION, 1) as u8;
         let device = self.number(broken, 2, "device", 0, 32_767, 0) as u16;
         let mdln = self.text(broken, 3, "mdln", told("GEM300"));
         let softrev = self.text(broken, 4, "softrev", told("1.0.00"));
         let communication = self.communication(broken, 5, "communication", CommStart::Enabled);
         let control = self.control(broken, 6, "control", ControlStart::OnlineRemote);
-        let chambers = self.number(broken, 7, "chambers", 1, 2, 2) as u8;
-        let ports = self.number(broken, 8, "ports", 1, 2, 2) as u8;
+        let chambers = self.number(broken, 7, "chambers", 1, most_chambers(version), 2) as u8;
+        let ports = self.number(broken, 8, "ports", 1, most_ports(version), 2) as u8;
         let spool_capacity = self.number(broken, 9, "spool_capacity", 1, 65_536, 1000) as u32;
         let spool_streams = self.streams(broken, 10, "spool_streams", NO_STREAMS);
         let overwrite = self.truth(broken, 11, "overwrite", false);
@@ -195,7 +202,8 @@ impl Reader<'_> {
         let max_entries = self.number(broken, 13, "max_entries", 1, 4_000_000, 4_000_000);
         let max_bytes = self.number(broken, 14, "max_bytes", 0, 536_870_912, 536_870_912);
         let start_moment = self.number(broken, 15, "start_moment", 0, LAST_MOMENT, 0);
-        let recipes = self.recipes(broken, 16, "recipes", chambers, recipe_for_all(chambers));
+        let default = recipe_for_all(chambers);
+        let recipes = self.recipes(broken, 16, "recipes", version, chambers, default);
         let tcp_port = self.number(broken, 17, "tcp_port", 1, 65_535, 5000) as u16;
         Config {
             version,
@@ -222,6 +230,24 @@ impl Reader<'_> {
             tcp_port,
         }
     }
+}
+
+// The greatest number of chambers of a version.
+fn most_chambers(version: u8) -> u64
+    ensures value { result ≡ most_chambers version }
+    ensures default { 2 ≤ result }
+    ensures last { result ≤ last_chamber }
+{
+    if version == 1 { 2 } else { 8 }
+}
+
+// The greatest number of load ports of a version.
+fn most_ports(version: u8) -> u64
+    ensures value { result ≡ most_ports version }
+    ensures default { 2 ≤ result }
+    ensures last { result ≤ 4 }
+{
+    if version == 1 { 2 } else { 4 }
 }
 
 // What is taken of a key that said this: the default where it is absent. A key that says no value breaks the rule.

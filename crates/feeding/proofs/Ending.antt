@@ -4,8 +4,8 @@ use Rattle.tool_events.specs.declared.entry.Entry.{Entry}
 use Rattle.tool_events.specs.declared.config.Config.{Config}
 use Rattle.history_parts.specs.CoreView.{CoreView}
 use Rattle.line_feeding.specs.declared.halt.Halt.TheVariants as halt
-use Rattle.line_feeding.specs.declared.ended.Cause.{Cause}
-use Rattle.line_feeding.specs.declared.ended.Cause.TheVariants as cause
+use Rattle.run_causes.specs.declared.cause.Cause.{Cause}
+use Rattle.run_causes.specs.declared.cause.Cause.TheVariants as cause
 use Rattle.line_feeding.specs.declared.ended.SessionNote.{SessionNote}
 use Rattle.feeding.specs.Views.{ReaderView}
 use Rattle.line_feeding.specs.declared.halt.InputEnd.{InputEnd}

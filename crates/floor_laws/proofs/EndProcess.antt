@@ -16,11 +16,10 @@ use Rattle.floor_model.specs.Machines.{substrate_starts, substrate_moves, with_m
 use Rattle.floor_moves.specs.Floor.{is_finished}
 use Rattle.floor_moves.specs.Valid.{IsUnnamed}
 use Rattle.floor_moves.specs.Agree.{Agree}
-use Rattle.floor_moves.proofs.Agreeing.{agree-keeps}
+use Rattle.floor_moves.proofs.Agreeing.{alike_same, agree-keeps}
 use Rattle.floor_moves.proofs.Done.{finished-keeps}
 use Rattle.place_laws.specs.Picture.{picture, module_of}
 use Rattle.place_laws.specs.Sound.{Sound}
-use Rattle.picture_laws.proofs.JobViews.{alike_same}
 use Rattle.picture_laws.proofs.Issuing.{changed_there, changed_else}
 use Rattle.picture_laws.proofs.Rows.{processing_agrees}
 use Rattle.floor_laws.proofs.EndBase.{changed_base}
@@ -91,6 +90,7 @@ module _ (number : ℕ) (f : ToolFloor) where
     place_of = λ k. refl;
     processing = λ k _. refl;
     is_aligned = λ k _. refl;
+    steps_of = λ k _ _. refl;
     carriers = refl;
     present_at = λ c. refl;
     is_verified = λ c _. refl;

@@ -20,7 +20,7 @@ use Rattle.floor_model.specs.Naming.{module_names, processes}
 use Rattle.floor_model.specs.Substrates.{is_outside, is_at_work, is_in_slot}
 use Rattle.floor_model.specs.Wants.{substrate_wants}
 use Rattle.floor_model.proofs.Keeping.{creation_same}
-use Rattle.floor_moves.specs.Floor.{slot, is_finished, named}
+use Rattle.floor_moves.specs.Floor.{slot, chamber, is_finished, named}
 use Rattle.floor_moves.proofs.Agreeing.{agree-keeps}
 use Rattle.floor_moves.proofs.Columns.{MayWork, worked-keeps}
 use Rattle.place_laws.specs.Picture.{picture, loc_of, place_in, of_one}
@@ -28,7 +28,7 @@ use Rattle.place_laws.specs.Sound.{Sound}
 use Rattle.picture_laws.proofs.Rows.{transport-keeps, processing_agrees}
 use Rattle.floor_laws.proofs.EndBase.{Leaves, changed_base}
 use Rattle.floor_laws.proofs.EndNames.{number_is, place_is}
-use Rattle.floor_laws.proofs.EndOpen.{busy_names, busy_processes}
+use Rattle.floor_laws.proofs.EndOpen.{busy_names, busy_processes, processes_busy}
 
 -- a row of a substrate leaves what it is of
 pub moves_leaves : (table row : ℕ) → Leaves (substrate_moves table row)
@@ -65,14 +65,25 @@ module _ (f : ToolFloor) (n : ℕ) (sound : Sound f) (s : Substrate) (known : su
   goes_to : (row : ℕ) → processing_number (after processing_number processing_table row s.states.processing) ≡ processing_number (after processing_number processing_table row processing.NeedsProcessing)
   goes_to row = ap (λ (p : Processing). processing_number (after processing_number processing_table row p)) needs
 
+  -- where an open Process names it, it stands in a chamber, and may be IN PROCESS
+  pub may_begin : list_any (processes s.sub) f.modules ≡ true → MayWork n 1 (picture f)
+  may_begin processed_now = record {
+    stays = λ t. absurd (let u = unfinished in cc);
+    picked = λ m p k c i t. refl;
+    processed = λ m c i t. refl;
+    in_slot = λ p k at u. absurd (in_chamber p k at);
+    needed = λ z. absurd (cc);
+  } where
+    in_chamber : (p k : ℕ) → (picture f).place_of n ≡ Some (slot p k) → ⊥
+    in_chamber p k at =
+        let w = processes_busy f sound.base sound.valid.commands n s known processed_now in
+        let there = sound.valid.commands.processes w.0 n w.1 w.2 w.3 in
+        let two : Some (slot p k) ≡ Some (chamber there.0) = sym at ∙ there.2 in
+        cc
+
   -- row 2
-  begins : Sound (with_moved 13 2 n f)
-  begins =
-      worked_sound f n 2 s 1 known (goes_to 2) (record {
-        stays = λ t. absurd (let u = unfinished in cc);
-        picked = λ m p k c i t. refl;
-        processed = λ m c i t. refl;
-      }) sound
+  begins : list_any (processes s.sub) f.modules ≡ true → Sound (with_moved 13 2 n f)
+  begins processed_now = worked_sound f n 2 s 1 known (goes_to 2) (may_begin processed_now) sound
 
   -- row 5
   skips : list_any (module_names s.sub) f.modules ≡ false → Sound (with_moved 13 5 n f)
@@ -81,6 +92,8 @@ module _ (f : ToolFloor) (n : ℕ) (sound : Sound f) (s : Substrate) (known : su
         stays = λ t. refl;
         picked = λ m p k c i t. absurd (let b = busy_names f sound.base sound.valid.commands n s known m c i (ap named t) in cc);
         processed = λ m c i t. absurd (let b = busy_names f sound.base sound.valid.commands n s known m c i (ap named t) in cc);
+        in_slot = λ p k at u. absurd (cc);
+        needed = λ z. absurd (cc);
       }) sound
 
   -- one that is outside has no place in a slot
@@ -103,6 +116,8 @@ module _ (f : ToolFloor) (n : ℕ) (sound : Sound f) (s : Substrate) (known : su
         stays = λ t. finished;
         picked = λ m p k c i t. absurd (not_in_slot out p k (sound.valid.commands.picks m n (slot p k) c i t).stands);
         processed = λ m c i t. absurd (let b = busy_processes f sound.base sound.valid.commands n s known m c i t in cc);
+        in_slot = λ p k at u. absurd (cc);
+        needed = λ z. absurd (let needs = ap is_finished z in cc);
       }) sound
 
 -- Row 1 in any state; the others where they start: 6 and 7 where row 2, which is the lesser, doesn't.
@@ -119,7 +134,7 @@ processing_sound f n row starts one first sound =
     row_2 None q e = absurd (cc)
     row_2 (Some s) q e =
         let w = and_parts (is_among processing_number (processing.NeedsProcessing ∷ []) s.states.processing) (list_any (processes s.sub) f.modules) e in
-        begins f n sound s q (is_needing s.states.processing w.0)
+        begins f n sound s q (is_needing s.states.processing w.0) w.1
 
     row_5 : (o : Option Substrate) → substrate_numbered n f.substrates ≡ o → substrate_starts processing_number processing_table (λ s. s.processing) 5 o f ≡ true → Sound (with_moved 13 5 n f)
     row_5 None q e = absurd (cc)

@@ -15,7 +15,7 @@ use Rattle.records.proofs.Truth.{not_true}
 use Rattle.floor_model.specs.Floor.{ToolFloor}
 use Rattle.floor_model.specs.Views.{views}
 use Rattle.floor_moves.specs.Floor.{Loc, slot, aligner, arm, chamber, pick, Command, idle, busy, is_outside, is_finished, chamber_module}
-use Rattle.floor_moves.specs.Valid.{Empty, PickStands, IsUnnamed, Valid}
+use Rattle.floor_moves.specs.Valid.{Empty, IsThrough, PickStands, IsUnnamed, Valid}
 use Rattle.place_laws.specs.Picture.{picture, loc_of}
 use Rattle.place_laws.specs.Sound.{Base}
 use Rattle.floor_laws.proofs.IssueViews.{IsSeen, view_seen}
@@ -99,9 +99,9 @@ module _ (f : ToolFloor) (b : Base f) (v : Valid (picture f)) (rests : is_idle (
     aligner_of Arm l is = absurd (cc)
     aligner_of (Chamber c) l is = absurd (cc)
 
-    chamber_of : (x : LocId) → Leaves f.modules w x → (c : ℕ) → loc_of x ≡ chamber c → is_finished ((picture f).processing n) ≡ true
-    chamber_of (Chamber c) l d is = s.finished ∙ (l.from_chamber c refl).1
-    chamber_of _ l d is = absurd (cc)
+    chamber_of : (x : LocId) → Leaves f.modules w x → (c : ℕ) → loc_of x ≡ chamber c → IsThrough n c (picture f)
+    chamber_of (Chamber c) l d is unfinished = absurd (let done : is_finished ((picture f).processing n) ≡ true = s.finished ∙ (l.from_chamber c refl).1 in cc)
+    chamber_of _ l d is unfinished = absurd (cc)
 
     arm_of : (x : LocId) → Leaves f.modules w x → loc_of x ≡ arm → ⊥
     arm_of (Slot p k) l is = cc

@@ -8,7 +8,7 @@ use Rattle.robot_moves.specs.Moves.{is_free, free_target}
 use Rattle.robot_moves.specs.declared.view.PlaceView.{PlaceView}
 use Rattle.floor_model.specs.Floor.{ToolFloor}
 use Rattle.floor_model.specs.Views.{views}
-use Rattle.floor_moves.specs.Floor.{Loc, slot, aligner, arm, chamber, Task, pick, place, align, process, named, Command, Floor, idle, busy, is_outside}
+use Rattle.floor_moves.specs.Floor.{Loc, slot, aligner, arm, chamber, Task, pick, place, align, process, named, Command, Floor, idle, busy, is_outside, next_step}
 use Rattle.floor_moves.specs.Valid.{PickStands, PlaceStands, AlignStands, ProcessStands, IsUnnamed, Valid}
 use Rattle.floor_moves.proofs.Issuing.{MayIssue}
 use Rattle.place_laws.specs.Picture.{picture, loc_of}
@@ -88,7 +88,11 @@ module _ (f : ToolFloor) (b : Base f) (v : Valid (picture f)) (rests : is_idle (
           free = free_empty f b loc free;
           to_slot = λ p k is. absurd (cc);
           to_aligner = λ is. absurd (cc);
-          to_chamber = λ c is. let same : h.c ≡ c = cc in (subst (λ (i : ℕ). is_one_of (picture f).chambers i ≡ true) same within, s.aligned ∙ h.aligned);
+          to_chamber = λ c is. let same : h.c ≡ c = cc in (
+            subst (λ (i : ℕ). is_one_of (picture f).chambers i ≡ true) same within,
+            s.aligned ∙ h.aligned,
+            λ unfinished. subst (λ (i : ℕ). is_one_of (next_step n (picture f)) i ≡ true) same (s.chambers (v.members.outside n (ap is_outside here)) h.c h.least h.most h.has),
+          );
           not_arm = λ is. cc;
         }
 

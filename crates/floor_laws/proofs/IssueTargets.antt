@@ -15,7 +15,7 @@ use Rattle.robot_moves.specs.declared.view.PlaceView.{PlaceView}
 use Rattle.floor_model.specs.Floor.{ToolFloor}
 use Rattle.floor_model.specs.Views.{views}
 use Rattle.floor_model.proofs.Moves.{is_idle_module}
-use Rattle.floor_moves.specs.Floor.{aligner, chamber, idle, modules, is_finished, chamber_module as its_module}
+use Rattle.floor_moves.specs.Floor.{aligner, chamber, idle, modules, is_finished, next_step, chamber_module as its_module}
 use Rattle.floor_moves.specs.Valid.{Empty, HasRoom}
 use Rattle.place_laws.specs.Picture.{picture, loc_of, module_of, numbers_from}
 use Rattle.place_laws.specs.Sound.{Base}
@@ -165,7 +165,7 @@ module _ (f : ToolFloor) (b : Base f) where
   room_seen n v loc s member e unfinished = of (free_target_is (views f) f.modules v loc e) where
     of : IsTarget v loc × (is_free (views f) f.modules loc ≡ true) → record {
       at_aligner : (picture f).is_aligned n ≡ false → Empty aligner (picture f);
-      in_chamber : (picture f).is_aligned n ≡ true → (c : ℕ) × (is_one_of ((picture f).jobs.chambers_of n) c ≡ true) × (is_one_of (picture f).chambers c ≡ true) × Empty (chamber c) (picture f);
+      in_chamber : (picture f).is_aligned n ≡ true → (c : ℕ) × (is_one_of (next_step n (picture f)) c ≡ true) × (is_one_of (picture f).chambers c ≡ true) × Empty (chamber c) (picture f);
     }
     of (inl h, free) = let yes : is_finished ((picture f).processing n) ≡ true = s.finished ∙ h.finished in absurd (cc)
     of (inr (inl h), free) = record {

@@ -25,7 +25,7 @@ use Rattle.floor_model.specs.declared.tracked.Substrate.{Substrate}
 use Rattle.floor_model.specs.Floor.{ToolFloor, substrate_numbered, number_of}
 use Rattle.floor_model.specs.Jobs.{job_of, is_job_so, is_processing}
 use Rattle.floor_model.specs.Views.{chambers_of, recipe_of, view_of, view_in, views_of, views}
-use Rattle.floor_moves.specs.Floor.{own, is_finished as is_finished_state}
+use Rattle.floor_moves.specs.Floor.{own, is_finished as is_finished_state, next_step}
 use Rattle.floor_moves.specs.Valid.{Empty}
 use Rattle.place_laws.specs.Picture.{picture, loc_of, numbered, chambers_in, of_one, of_job}
 use Rattle.place_laws.specs.Sound.{Base}
@@ -60,7 +60,7 @@ pub record IsSeen (f : ToolFloor) (n : ℕ) (v : PlaceView) : Type 0 where
   pub finished : is_finished_state ((picture f).processing n) ≡ v.finished
   pub aligned : (picture f).is_aligned n ≡ v.aligned
   pub starts : (picture f).jobs.may_start n ≡ v.may_start
-  pub chambers : (picture f).jobs.is_member n ≡ true → (c : ℕ) → 1 ≤ c → c ≤ 8 → has_chamber v.chambers c ≡ true → is_one_of ((picture f).jobs.chambers_of n) c ≡ true
+  pub chambers : (picture f).jobs.is_member n ≡ true → (c : ℕ) → 1 ≤ c → c ≤ 8 → has_chamber v.chambers c ≡ true → is_one_of (next_step n (picture f)) c ≡ true
 
 -- a view is of one
 abbrev pub IsView : ToolFloor → PlaceView → Type 0

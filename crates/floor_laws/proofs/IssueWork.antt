@@ -9,6 +9,7 @@ use Rattle.floor_moves.specs.Floor.{Loc, aligner, arm, chamber, align, process, 
 use Rattle.floor_moves.specs.Valid.{AlignStands, ProcessStands, PickStands, PlaceStands, Valid}
 use Rattle.place_laws.specs.Picture.{picture, loc_of}
 use Rattle.place_laws.specs.Sound.{Base}
+use Rattle.place_laws.proofs.OneStep.{next_there, through_finished}
 use Rattle.floor_laws.proofs.IssueViews.{IsSeen}
 use Rattle.floor_laws.proofs.IssueTargets.{idle_seen, module_within}
 use Rattle.floor_moves.proofs.Issuing.{MayIssue}
@@ -74,14 +75,17 @@ module _ (f : ToolFloor) (b : Base f) (v : Valid (picture f)) where
     here : (picture f).place_of n ≡ Some (chamber c)
     here = s.at ∙ ap (λ (x : LocId). Some (loc_of x)) e
 
+    not_yet : is_finished ((picture f).processing n) ≡ false
+    not_yet = s.finished ∙ unfinished
+
     its_idle : (picture f).equipment (chamber_module c) ≡ idle
     its_idle = idle_seen f b (chamber_number c) rests
 
     no_pick : (m : ℕ) (l : Loc) (d : Command) → (picture f).equipment m ≡ busy d → PickStands m n l (picture f) → ⊥
     no_pick m l d open_ t =
         let from : l ≡ chamber c = one_place (picture f) n l (chamber c) t.stands here in
-        let done : is_finished ((picture f).processing n) ≡ true = t.from_chamber c from in
-        let not_yet : is_finished ((picture f).processing n) ≡ false = s.finished ∙ unfinished in
+        let done : is_finished ((picture f).processing n) ≡ true = through_finished f v n c here (t.from_chamber c from) in
+        let unfinished = not_yet in
         cc
 
     no_place : (m : ℕ) (l : Loc) (d : Command) → (picture f).equipment m ≡ busy d → PlaceStands m n l (picture f) → ⊥
@@ -99,4 +103,4 @@ module _ (f : ToolFloor) (b : Base f) (v : Valid (picture f)) where
     of_task : (k : ℕ) → process n ≡ process k → ProcessStands (chamber_number c) k (picture f)
     of_task k t =
         let number : n ≡ k = cc in
-        subst (λ (i : ℕ). ProcessStands (chamber_number c) i (picture f)) number (c, refl, here, s.finished ∙ unfinished)
+        subst (λ (i : ℕ). ProcessStands (chamber_number c) i (picture f)) number (c, refl, here, not_yet, next_there f v n c here not_yet)

@@ -20,15 +20,15 @@ use Rattle.floor_moves.specs.Floor.{Task, pick, place, align, process, named, Co
 use Rattle.floor_moves.specs.Agree.{Agree}
 use Rattle.floor_moves.specs.Carriers.{with_jobs}
 use Rattle.floor_moves.specs.Valid.{Members, Valid, MaySay}
-use Rattle.floor_moves.proofs.Agreeing.{agree-keeps}
+use Rattle.floor_moves.proofs.Agreeing.{alike_same, agree-keeps}
 use Rattle.floor_moves.proofs.Carrying.{jobs_say-keeps}
 use Rattle.floor_moves.proofs.Facts.{outside_not_done, picked_not_done}
 use Rattle.place_laws.specs.Picture.{picture, of_one, of_job, is_complete, chambers_in, job_view, port_in, slot_in, where_present}
 use Rattle.place_laws.specs.Sound.{IsOfJob, IsInItsJob, JobsSound, Base, Sound}
 use Rattle.place_laws.proofs.Holding.{found_among, true_of_found}
 use Rattle.place_laws.proofs.Leaving.{Leaves}
+use Rattle.place_laws.proofs.OneStep.{one_left}
 use Rattle.place_laws.proofs.Stays.{stay-carried}
-use Rattle.picture_laws.proofs.JobViews.{alike_same}
 use Rattle.floor_laws.proofs.UnloadMarked.{all_marked-unloading}
 use Rattle.floor_laws.proofs.JobSight.{some_same, none_some}
 use Rattle.floor_laws.proofs.JobChanges.{IsJobAlone, numbers_map, found_map, says_map, carried_map, registered_map, apart_map, rising_map, held_map, marked_leaves, marked_at_ports, marked_numbers, marked_says}
@@ -104,6 +104,7 @@ module _ (f : ToolFloor) (ms : List Material) (change : Substrate → Substrate)
     place_of = λ n. refl;
     processing = λ n _. processing_same n;
     is_aligned = λ n _. says_map change alone false (λ (s : Substrate). s.aligned) (λ s. ap (λ (x : Substrate). x.aligned) (alone s)) n f.substrates;
+    steps_of = λ k _ _. refl;
     carriers = marked_numbers ms f.shop;
     present_at = λ c. marked_says None where_present (λ x. refl) ms f.shop c;
     is_verified = λ c _. marked_says false (λ (x : Carrier). is_map_verified x.states.map) (λ x. refl) ms f.shop c;
@@ -145,15 +146,15 @@ module _ (f : ToolFloor) (ms : List Material) (change : Substrate → Substrate)
         let k = goes.stays n m.one m.job m.found left m.its in
         said_there (map change f.substrates) w n false (λ j. true) (change m.one) k.0 (found_behind n m.one m.found) k.1
 
-    -- and has the chambers that it had
-    chambers_on : (n : ℕ) → is_done n (picture f) ≡ false → (picture f).jobs.is_member n ≡ true → view.chambers_of n ≡ (picture f).jobs.chambers_of n
-    chambers_on n left is =
+    -- and has the route that it had
+    route_on : (n : ℕ) → is_done n (picture f) ≡ false → (picture f).jobs.is_member n ≡ true → view.route_of n ≡ (picture f).jobs.route_of n
+    route_on n left is = ap (λ (step : List ℕ). step ∷ []) (
         let m = member_tells f.substrates f.jobs n (λ j. true) is in
         let k = goes.stays n m.one m.job m.found left m.its in
         said_there (map change f.substrates) w n [] (λ j. chambers_in (recipe_named j.recipe w.process.recipes)) (change m.one) k.0 (found_behind n m.one m.found) k.1
         ∙ ap (λ (r : List ℕ). chambers_in (recipe_named r w.process.recipes)) k.2
         ∙ ap (λ (rs : List Recipe). chambers_in (recipe_named m.job.recipe rs)) goes.recipes
-        ∙ sym (said_there f.substrates f.jobs n [] (λ j. chambers_in (recipe_named j.recipe f.jobs.process.recipes)) m.one m.job m.found m.its)
+        ∙ sym (said_there f.substrates f.jobs n [] (λ j. chambers_in (recipe_named j.recipe f.jobs.process.recipes)) m.one m.job m.found m.its))
 
     -- one that an open command names isn't done
     named_left : (m : ℕ) (c : Command) → (picture f).equipment m ≡ busy c → is_done (named c.task) (picture f) ≡ false
@@ -174,6 +175,7 @@ module _ (f : ToolFloor) (ms : List Material) (change : Substrate → Substrate)
       carrier = λ n e. carrier n (member_tells (map change f.substrates) w n (λ j. true) e);
       here = λ n e. here n (member_tells (map change f.substrates) w n (λ j. true) e);
       complete = λ n e done. over n (member_tells (map change f.substrates) w n (λ j. is_complete j.states.state) done);
+      left = λ n e unfinished. one_left (of_one [] (of_job [] (λ j. chambers_in (recipe_named j.recipe w.process.recipes)) w) (substrate_numbered n (map change f.substrates)));
     } where
       carrier_is : (n : ℕ) (s : Substrate) → substrate_numbered n f.substrates ≡ Some s → (picture f).carrier_of n ≡ s.carrier
       carrier_is n s e = ap (of_one 0 (λ (s : Substrate). s.carrier)) e
@@ -196,12 +198,12 @@ module _ (f : ToolFloor) (ms : List Material) (change : Substrate → Substrate)
       over : (n : ℕ) → IsMember (map change f.substrates) w (λ j. is_complete j.states.state) n → is_done n (picture f) ≡ true
       over n m = let s = before n m.one m.found in goes.over n s.0 m.job s.1 (ap (λ (x : Substrate). job_of x w) s.2 ∙ m.its) m.so
 
-    -- and the recipes of those on the arm or named stay
+    -- and the routes of those outside or named stay
     may_say : MaySay view (picture f)
     may_say = record {
       right = right;
-      on_arm = λ n at. let out : law.is_outside ((picture f).place_of n) ≡ true = ap law.is_outside at in chambers_on n (outside_not_done (picture f) n out) (v.members.outside n out);
-      named_same = λ m c e. chambers_on (named c.task) (named_left m c e) (v.members.named m c e);
+      outside_same = λ n out. route_on n (outside_not_done (picture f) n out) (v.members.outside n out);
+      named_same = λ m c e. route_on (named c.task) (named_left m c e) (v.members.named m c e);
     }
 
     -- so it holds by numbers

@@ -103,7 +103,9 @@ module _ (f : ToolFloor) (s : Floor) where
       carrier = still_named carried stay v.members;
       here = here;
       complete = v.members.complete;
+      left = v.members.left;
     };
+    steps = v.steps;
     removed = v.removed;
   }
 

@@ -1,87 +1,71 @@
--- The picks from the aligner and from the chambers, by who is there: those that are useful, and no others.
-use Rattle.std.proofs.Common.{◌≡◌, ℕ, zero, suc, ◌+◌, ◌-◌, ◌==◌, ◌<◌, ◌≤◌, nat_lt, nat_le, Bool, true, false, true≢false, cond, ◌&&◌, List, [], ◌∷◌, length, Option, Some, None, slice_get, refl, sym, ap, subst, ◌∙◌, arith}
+-- The picks from the aligner and from the chambers, by who is there: those that are useful, and no others; and which of the chambers is
+-- the last that has one.
+use Rattle.std.specs.Option.{option_or}
+use Rattle.std.proofs.Common.{◌≡◌, ℕ, zero, suc, ◌-◌, ◌<◌, ◌≤◌, nat_lt, nat_le, Bool, true, false, true≢false, cond, List, length, Option, Some, None, slice_get, refl, sym, ap, subst, ◌∙◌, arith}
 use Rattle.std.proofs.lemmas.Bool.Decides.{nat_tests}
 use Rattle.gem_ids.specs.declared.numbers.LocId.{LocId}
-use Rattle.gem_ids.specs.declared.numbers.LocId.TheVariants.{Slot, Aligner, Arm, Chamber}
+use Rattle.gem_ids.specs.declared.numbers.LocId.TheVariants.{Aligner, Chamber}
 use Rattle.substrate.specs.Locations.{is_location}
 use Rattle.substrate.specs.Places.{ArePlaces}
 use Rattle.records.proofs.Truth.{and_true}
 use Rattle.robot_moves.specs.Modules.{chamber_module, module_at, is_idle}
-use Rattle.robot_moves.specs.Moves.{holder, first_among, may_leave, is_useful}
+use Rattle.robot_moves.specs.Moves.{holder, may_leave, is_useful}
 use Rattle.robot_moves.specs.declared.module.Module.{Module}
 use Rattle.robot_moves.specs.declared.view.PlaceView.{PlaceView}
-use Rattle.robot_moves.proofs.Joined.{joined, joined_next}
 use Rattle.robot_moves.proofs.Least.{holder_there, holder_of}
 use Rattle.floor_model.specs.Floor.{ToolFloor}
 use Rattle.floor_model.specs.Views.{views}
-use Rattle.floor_model.specs.Picks.{where_useful, pick_at, chamber_pick, better_of, put_front, given_by, chamber_picks, aligner_pick}
+use Rattle.floor_model.specs.Picks.{where_useful, pick_at, chamber_pick, last_of, aligner_pick}
 use Rattle.floor_model.proofs.Behind.{none_past}
 use Rattle.floor_model.proofs.Told.{views_apart, view_within}
 
--- ---- what several numbers give
+-- ---- the last of several numbers that gives something
 
 module _ (gives : ℕ → Option PlaceView) where
-  -- the next number's turn
-  pub joined_given : (best : Option PlaceView) (index total : ℕ) → index < total
-      → joined best (first_among (given_by gives (index + 1) (total - index))) ≡ joined (better_of best (gives (index + 1))) (first_among (given_by gives (index + 1 + 1) (total - (index + 1))))
-  joined_given best index total l =
-      let count : total - index ≡ suc (total - (index + 1)) = omega arith in
-      rw count (of (gives (index + 1)))
-    where
-      of : (o : Option PlaceView) → joined best (first_among (put_front o (given_by gives (index + 1 + 1) (total - (index + 1))))) ≡ joined (better_of best o) (first_among (given_by gives (index + 1 + 1) (total - (index + 1))))
-      of None = refl
-      of (Some v) = joined_next best v (first_among (given_by gives (index + 1 + 1) (total - (index + 1))))
+  -- none of the numbers behind one gives anything, up to another
+  abbrev pub NoneBehind : ℕ → ℕ → Type 0
+  NoneBehind number total = (m : ℕ) → number < m → m ≤ total → gives m ≡ None
 
-  -- none is left
-  pub joined_end : (best : Option PlaceView) (index total : ℕ) → total ≤ index → joined best (first_among (given_by gives (index + 1) (total - index))) ≡ best
-  joined_end best index total l =
-      let count : total - index ≡ zero = omega arith in
-      rw count (of best)
-    where
-      of : (o : Option PlaceView) → joined o None ≡ o
-      of None = refl
-      of (Some v) = refl
+  -- one more that gives nothing
+  one_more : (number total : ℕ) → gives (suc total) ≡ None → NoneBehind number total → NoneBehind number (suc total)
+  one_more number total none behind m past within = by_test (nat_le m total) refl where
+    by_test : (t : Bool) → nat_le m total ≡ t → gives m ≡ None
+    by_test true q = behind m past (grind (arith, nat_tests))
+    by_test false q =
+        let same : m ≡ suc total = grind (arith, nat_tests, within) in
+        subst (λ (k : ℕ). gives k ≡ None) (sym same) none
 
-  -- one of these numbers gives it
-  record IsGiven (number count : ℕ) (v : PlaceView) : Type 0 where
-    n : ℕ
-    least : number ≤ n
-    most : n < number + count
-    is : gives n ≡ Some v
+  -- this number is the last, where it gives something
+  pub last_here : (total : ℕ) (v : PlaceView) → gives (suc total) ≡ Some v → last_of gives (suc total) ≡ Some v
+  last_here total v e = rw e refl
 
-  given_is : (number count i : ℕ) (v : PlaceView) → slice_get (given_by gives number count) i ≡ Some v → IsGiven number count v
-  given_is number zero i v e = absurd (cc)
-  given_is number (suc count) i v e = of (gives number) refl i e (λ j f. given_is (number + 1) count j v f) where
-    behind : IsGiven (number + 1) count v → IsGiven number (suc count) v
-    behind g =
-        let least = g.least in
-        let most = g.most in
-        record { n = g.n; least = omega (arith, least); most = omega (arith, most); is = g.is }
+  -- the number before has its turn, where this one gives nothing
+  pub last_before : (total : ℕ) → gives (suc total) ≡ None → last_of gives (suc total) ≡ last_of gives total
+  last_before total e = rw e refl
 
-    of : (o : Option PlaceView) → gives number ≡ o → (j : ℕ) → slice_get (put_front o (given_by gives (number + 1) count)) j ≡ Some v
-        → ((k : ℕ) → slice_get (given_by gives (number + 1) count) k ≡ Some v → IsGiven (number + 1) count v) → IsGiven number (suc count) v
-    of None q j f later = behind (later j f)
-    of (Some u) q zero f later = record { n = number; least = omega arith; most = omega arith; is = q ∙ f }
-    of (Some u) q (suc j) f later = behind (later j f)
+  -- the last number that gives something, and what it gives
+  pub record IsLast (total : ℕ) (v : PlaceView) : Type 0 where
+    pub number : ℕ
+    pub first : 1 ≤ number
+    pub is : gives number ≡ Some v
+    pub behind : NoneBehind number total
 
-  is_given : (number count n : ℕ) (v : PlaceView) → number ≤ n → n < number + count → gives n ≡ Some v → (i : ℕ) × (slice_get (given_by gives number count) i ≡ Some v)
-  is_given number zero n v a b e = absurd (omega (arith, a, b))
-  is_given number (suc count) n v a b e = by_place (nat_lt number n) refl (λ least most. is_given (number + 1) count n v least most e) where
-    put : (o : Option PlaceView) (vs : List PlaceView) → (i : ℕ) × (slice_get vs i ≡ Some v) → (i : ℕ) × (slice_get (put_front o vs) i ≡ Some v)
-    put None vs h = h
-    put (Some u) vs h = (suc h.0, h.1)
+  pub last_is : (total : ℕ) (v : PlaceView) → last_of gives total ≡ Some v → IsLast total v
+  last_is zero v e = absurd (cc)
+  last_is (suc total) v e = of (gives (suc total)) refl e (last_is total v) where
+    of : (o : Option PlaceView) → gives (suc total) ≡ o → option_or o (last_of gives total) ≡ Some v → (last_of gives total ≡ Some v → IsLast total v) → IsLast (suc total) v
+    of None q f before =
+        let last = before f in
+        record { number = last.number; first = last.first; is = last.is; behind = one_more last.number total q last.behind }
+    of (Some u) q f before =
+        record { number = suc total; first = omega arith; is = q ∙ f; behind = λ m past within. absurd (omega (arith, past, within)) }
 
-    front : (o : Option PlaceView) (vs : List PlaceView) → o ≡ Some v → (i : ℕ) × (slice_get (put_front o vs) i ≡ Some v)
-    front None vs q = absurd (cc)
-    front (Some u) vs q = (0, q)
-
-    by_place : (t : Bool) → nat_lt number n ≡ t → (number + 1 ≤ n → n < number + 1 + count → (i : ℕ) × (slice_get (given_by gives (number + 1) count) i ≡ Some v)) → (i : ℕ) × (slice_get (put_front (gives number) (given_by gives (number + 1) count)) i ≡ Some v)
-    by_place true l later =
-        let least : number + 1 ≤ n = grind (arith, nat_tests) in
-        put (gives number) (given_by gives (number + 1) count) (later least (omega (arith, b)))
-    by_place false l later =
-        let same : n ≡ number = grind (arith, nat_tests, a) in
-        front (gives number) (given_by gives (number + 1) count) (subst (λ (k : ℕ). gives k ≡ Some v) same e)
+  pub last_none : (total : ℕ) → last_of gives total ≡ None → NoneBehind 0 total
+  last_none zero e = λ m past within. absurd (omega (arith, past, within))
+  last_none (suc total) e = of (gives (suc total)) refl e (last_none total) where
+    of : (o : Option PlaceView) → gives (suc total) ≡ o → option_or o (last_of gives total) ≡ None → (last_of gives total ≡ None → NoneBehind 0 total) → NoneBehind 0 (suc total)
+    of None q f before = one_more 0 total q (before f)
+    of (Some u) q f before = absurd (cc)
 
 -- ---- useful picks
 
@@ -155,23 +139,25 @@ module _ (f : ToolFloor) (places : ArePlaces f.places) (ms : List Module) where
   pub aligner_stands : (v : PlaceView) → aligner_pick (views f) ms ≡ Some v → StandsAt (views f) ms Aligner v
   aligner_stands v e = pick_stands 2 Aligner (views f) ms v e
 
+  -- a useful pick from a chamber, by the chamber's number
+  pub record IsFromChamber (c : ℕ) (w : PlaceView) : Type 0 where
+    pub first : 1 ≤ c
+    pub last : c ≤ length ms - 2
+    pub is : chamber_pick (views f) ms c ≡ Some w
+
   -- what is useful in a chamber is picked there
-  pub chamber_useful : (i : ℕ) (w : PlaceView) (c : ℕ) → slice_get (views f) i ≡ Some w → w.at ≡ Chamber c → is_useful (views f) ms w ≡ true
-      → (j : ℕ) × (slice_get (chamber_picks (views f) ms) j ≡ Some w)
+  pub chamber_useful : (i : ℕ) (w : PlaceView) (c : ℕ) → slice_get (views f) i ≡ Some w → w.at ≡ Chamber c → is_useful (views f) ms w ≡ true → IsFromChamber c w
   chamber_useful i w c there at useful =
       let inside = subst (λ (l : LocId). is_location f.places.ports f.places.chambers l ≡ true) at (view_within f places i w there) in
-      let first : 1 ≤ c = chamber_first f.places.ports f.places.chambers c inside in
       let leaves = useful_leaves (views f) ms w (Chamber c) at useful in
       let idle : is_idle (module_at (chamber_module c) ms) ≡ true = (and_true (is_idle (module_at (chamber_module c) ms)) _ leaves).0 in
       let most : chamber_module c ≤ length ms = idle_within (chamber_module c) ms idle in
       let held = subst (λ (l : LocId). holder l (views f) ≡ Some w) at (holder_of (views f) i w (views_apart f places) there) in
-      let own : chamber_module c - 2 ≡ c = omega arith in
-      let picked : chamber_pick (views f) ms (chamber_module c) ≡ Some w =
-      pick_is (chamber_module c) (Chamber (chamber_module c - 2)) (views f) ms w idle (subst (λ (n : ℕ). holder (Chamber n) (views f) ≡ Some w) (sym own) held) useful in
-      is_given (chamber_pick (views f) ms) 3 (length ms - 2) (chamber_module c) w (omega (arith, first)) (omega (arith, most)) picked
+      record {
+        first = chamber_first f.places.ports f.places.chambers c inside;
+        last = omega (arith, most);
+        is = pick_is (chamber_module c) (Chamber c) (views f) ms w idle held useful;
+      }
 
-  pub chamber_stands : (j : ℕ) (v : PlaceView) → slice_get (chamber_picks (views f) ms) j ≡ Some v → (c : ℕ) × (1 ≤ c) × StandsAt (views f) ms (Chamber c) v
-  chamber_stands j v e =
-      let given = given_is (chamber_pick (views f) ms) 3 (length ms - 2) j v e in
-      let least = given.least in
-      (given.n - 2, omega (arith, least), pick_stands given.n (Chamber (given.n - 2)) (views f) ms v given.is)
+  pub chamber_stands : (c : ℕ) (v : PlaceView) → chamber_pick (views f) ms c ≡ Some v → StandsAt (views f) ms (Chamber c) v
+  chamber_stands c v e = pick_stands (chamber_module c) (Chamber c) (views f) ms v e

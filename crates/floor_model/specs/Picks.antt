@@ -1,5 +1,5 @@
 -- What the floor tells of one substrate, and which of its picks are useful (this tool's profile, moves).
-use Rattle.std.specs.Prelude.{ℕ, zero, suc, ◌+◌, ◌-◌, ◌==◌, Bool, not, ◌&&◌, ◌||◌, if◌then◌else◌, List, [], ◌∷◌, length, find, Option, Some, None, option_map}
+use Rattle.std.specs.Prelude.{ℕ, zero, suc, ◌-◌, ◌==◌, Bool, not, ◌&&◌, ◌||◌, if◌then◌else◌, List, [], ◌∷◌, length, find, Option, Some, None, option_map}
 use Rattle.std.specs.Option.{option_or}
 use Rattle.gem_ids.specs.declared.numbers.LocId.{LocId}
 use Rattle.gem_ids.specs.declared.numbers.LocId.TheVariants.{Aligner, Chamber}
@@ -7,8 +7,8 @@ use Rattle.substrate.specs.Locations.{is_work_place}
 use Rattle.substrate.specs.Places.{stands_at}
 use Rattle.substrate.specs.Record.{is_finished}
 use Rattle.substrate.specs.declared.registered.Registered.{Registered}
-use Rattle.robot_moves.specs.Modules.{module_at, is_idle}
-use Rattle.robot_moves.specs.Moves.{holder, better, is_useful}
+use Rattle.robot_moves.specs.Modules.{chamber_module, module_at, is_idle}
+use Rattle.robot_moves.specs.Moves.{holder, is_useful}
 use Rattle.robot_moves.specs.declared.module.Module.{Module}
 use Rattle.robot_moves.specs.declared.view.PlaceView.{PlaceView}
 use Rattle.tool_jobs.specs.Jobs.{Jobs}
@@ -53,28 +53,18 @@ where_useful vs modules (Some v) = if is_useful vs modules v then Some v else No
 abbrev pub pick_at : ℕ → LocId → List PlaceView → List Module → Option PlaceView
 pick_at number loc vs modules = if is_idle (module_at number modules) then where_useful vs modules (holder loc vs) else None
 
--- the one in a chamber, by the number of its module
+-- the pick from a chamber
 abbrev pub chamber_pick : List PlaceView → List Module → ℕ → Option PlaceView
-chamber_pick vs modules number = pick_at number (Chamber (number - 2)) vs modules
+chamber_pick vs modules c = pick_at (chamber_module c) (Chamber c) vs modules
 
--- the better of two picks, where there are two
-abbrev pub better_of : Option PlaceView → Option PlaceView → Option PlaceView
-better_of best None = best
-better_of best (Some v) = Some (better best v)
+-- what the greatest number up to this one gives that gives something; the numbers are those from 1 on
+abbrev pub last_of : (ℕ → Option PlaceView) → ℕ → Option PlaceView
+last_of gives zero = None
+last_of gives (suc number) = option_or (gives (suc number)) (last_of gives number)
 
--- in front of others, where it is there
-abbrev pub put_front : Option PlaceView → List PlaceView → List PlaceView
-put_front None vs = vs
-put_front (Some v) vs = v ∷ vs
-
--- what so many numbers give, from one on
-abbrev pub given_by : (ℕ → Option PlaceView) → ℕ → ℕ → List PlaceView
-given_by gives number zero = []
-given_by gives number (suc count) = put_front (gives number) (given_by gives (number + 1) count)
-
--- the picks from all chambers, whose modules are those from 3 on
-abbrev pub chamber_picks : List PlaceView → List Module → List PlaceView
-chamber_picks vs modules = given_by (chamber_pick vs modules) 3 (length modules - 2)
+-- the pick from the greatest chamber that has one; all modules but the robot and the aligner are chambers
+abbrev pub last_chamber_pick : List PlaceView → List Module → Option PlaceView
+last_chamber_pick vs modules = last_of (chamber_pick vs modules) (length modules - 2)
 
 -- the pick from the aligner
 abbrev pub aligner_pick : List PlaceView → List Module → Option PlaceView

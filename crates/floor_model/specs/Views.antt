@@ -6,6 +6,7 @@ use Rattle.substrate.specs.declared.registered.Registered.{Registered}
 use Rattle.robot_moves.specs.Moves.{module_move}
 use Rattle.robot_moves.specs.declared.view.PlaceView.{PlaceView}
 use Rattle.robot_moves.specs.declared.view.Move.{Move}
+use Rattle.tool_tasks.specs.Routes.{step_at}
 use Rattle.tool_tasks.specs.declared.recipes.Recipe.{Recipe}
 use Rattle.process_job.specs.Jobs.{recipe_named}
 use Rattle.process_job.specs.declared.job.ProcessJob.{ProcessJob}
@@ -14,10 +15,10 @@ use Rattle.floor_model.specs.declared.tracked.Substrate.{Substrate}
 use Rattle.floor_model.specs.Jobs.{job_of, is_job_so, is_processing}
 use Rattle.floor_model.specs.Floor.{ToolFloor, substrate_numbered}
 
--- the set of the chambers of a recipe, none where there is no such recipe
+-- the set of the chambers of the first step of a recipe, none where there is no such recipe
 abbrev pub chambers_of : Option Recipe → ℕ
 chambers_of None = 0
-chambers_of (Some r) = r.chambers
+chambers_of (Some r) = step_at 0 r.route
 
 -- the name of the recipe of a process job, empty where there is none
 abbrev pub recipe_of : Option ProcessJob → List ℕ
@@ -25,7 +26,7 @@ recipe_of None = []
 recipe_of (Some j) = j.recipe
 
 -- A substrate and its place, with its process job where it is in one: it may leave its slot where that is PROCESSING, and goes by the
--- recipe of that to the chambers of the recipe.
+-- recipe of that to the chambers of its first step.
 abbrev pub view_of : Registered → Substrate → Option ProcessJob → List Recipe → PlaceView
 view_of r s job recipes = record {
   sub = r.sub;

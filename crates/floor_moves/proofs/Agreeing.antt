@@ -1,9 +1,22 @@
 -- What holds of a floor holds of each that says the same of what is kept.
-use Rattle.std.proofs.Common.{◌≡◌, ◌≤◌, ◌<◌, ℕ, Bool, true, not, ◌&&◌, ◌||◌, List, Option, Some, sym, ap, subst, ◌∙◌}
+use Rattle.std.proofs.Common.{◌≡◌, ◌≤◌, ◌<◌, ℕ, Bool, true, false, not, ◌&&◌, ◌||◌, List, length, Option, Some, refl, sym, ap, subst, ◌∙◌}
 use Rattle.gem_tables.specs.Table.{is_one_of}
-use Rattle.floor_moves.specs.Floor.{Loc, slot, aligner, arm, chamber, named, Module, Floor, modules, own, is_outside, is_finished, is_done}
-use Rattle.floor_moves.specs.Valid.{Empty, IsDistinct, HasRoom, Places, Carriers, Commands, Members, Valid}
-use Rattle.floor_moves.specs.Agree.{Agree}
+use Rattle.floor_moves.specs.Floor.{Loc, slot, aligner, arm, chamber, named, Module, JobView, Floor, modules, own, is_outside, is_finished, step_at, next_step, is_done}
+use Rattle.floor_moves.specs.Valid.{Empty, IsDistinct, HasRoom, Places, Carriers, Commands, Members, Steps, Valid}
+use Rattle.floor_moves.specs.Agree.{SayAlike, Agree}
+
+-- a view of process jobs says what it says
+pub alike_same : (present_at : ℕ → Option ℕ) (v : JobView) → SayAlike present_at v v
+alike_same present_at v = record {
+  is_member = λ n. refl;
+  may_start = λ n. refl;
+  is_stopping = λ n. refl;
+  is_aborting = λ n. refl;
+  is_complete = λ n. refl;
+  route_of = λ n. refl;
+  names_carrier = λ c p here. refl;
+  is_marked = λ c p here. refl;
+}
 
 module _ (g h : Floor) (a : Agree g h) where
   -- a place in the one is that in the other
@@ -37,13 +50,25 @@ module _ (g h : Floor) (a : Agree g h) where
   pub finished_same : (n : ℕ) → is_one_of g.substrates n ≡ true → is_finished (h.processing n) ≡ is_finished (g.processing n)
   finished_same n kept = ap is_finished (a.processing n kept)
 
+  unfinished_back : (n : ℕ) → is_one_of g.substrates n ≡ true → is_finished (h.processing n) ≡ false → is_finished (g.processing n) ≡ false
+  unfinished_back n kept e = sym (finished_same n kept) ∙ e
+
+  -- the next step of one that is unfinished
+  pub next_same : (n : ℕ) → is_one_of g.substrates n ≡ true → is_finished (g.processing n) ≡ false → next_step n h ≡ next_step n g
+  next_same n kept f = ap (λ (k : ℕ). step_at k (h.jobs.route_of n)) (a.steps_of n kept f) ∙ ap (step_at (g.steps_of n)) (a.jobs.route_of n)
+
+  -- a chamber is in it, or isn't
+  next_on : (n c : ℕ) (b : Bool) → is_one_of g.substrates n ≡ true → is_finished (g.processing n) ≡ false → is_one_of (next_step n g) c ≡ b → is_one_of (next_step n h) c ≡ b
+  next_on n c b kept f e = ap (λ (cs : List ℕ). is_one_of cs c) (next_same n kept f) ∙ e
+
   room_on : (n : ℕ) → is_one_of g.substrates n ≡ true → HasRoom n g → HasRoom n h
   room_on n kept room e =
-      let old = room (sym (finished_same n kept) ∙ e) in
+      let f = unfinished_back n kept e in
+      let old = room f in
       record {
         at_aligner = λ not_yet. empty_on aligner (old.at_aligner (sym (a.is_aligned n kept) ∙ not_yet));
         in_chamber = λ is. let c = old.in_chamber (sym (a.is_aligned n kept) ∙ is) in
-            (c.0, ap (λ (cs : List ℕ). is_one_of cs c.0) (a.jobs.chambers_of n) ∙ c.1, chamber_on c.0 c.2, empty_on (chamber c.0) c.3);
+            (c.0, next_on n c.0 true kept f c.1, chamber_on c.0 c.2, empty_on (chamber c.0) c.3);
       }
 
   places_on : Places g → Places h
@@ -77,7 +102,7 @@ module _ (g h : Floor) (a : Agree g h) where
       room = room_on n i s.room;
       from_slot = λ q k is. finished_same n i ∙ s.from_slot q k is;
       from_aligner = λ is. ap (λ (b : Bool). b || h.is_aligned n) (finished_same n i) ∙ ap (λ (b : Bool). is_finished (g.processing n) || b) (a.is_aligned n i) ∙ s.from_aligner is;
-      from_chamber = λ d is. finished_same n i ∙ s.from_chamber d is;
+      from_chamber = λ d is u. let f = unfinished_back n i u in next_on n d false i f (s.from_chamber d is f);
       not_arm = s.not_arm;
     };
     places = λ m n l c e t. let s = v.places m n l c (busy_back m _ e) t in let i = p.kept n arm s.stands in record {
@@ -86,13 +111,13 @@ module _ (g h : Floor) (a : Agree g h) where
       free = empty_on l s.free;
       to_slot = λ q k is. let old = s.to_slot q k is in (old.0 ∙ sym (own_same n i), finished_same n i ∙ old.1);
       to_aligner = λ is. a.is_aligned n i ∙ s.to_aligner is;
-      to_chamber = λ d is. let old = s.to_chamber d is in (chamber_on d old.0, a.is_aligned n i ∙ old.1);
+      to_chamber = λ d is. let old = s.to_chamber d is in (chamber_on d old.0, a.is_aligned n i ∙ old.1, λ u. let f = unfinished_back n i u in next_on n d true i f (old.2 f));
       not_arm = s.not_arm;
     };
     aligns = λ m n c e t. let s = v.aligns m n c (busy_back m _ e) t in
         record { its_module = s.its_module; stands = place_on n _ s.stands; unaligned = a.is_aligned n (p.kept n aligner s.stands) ∙ s.unaligned };
-    processes = λ m n c e t. let s = v.processes m n c (busy_back m _ e) t in
-        (s.0, s.1, place_on n _ s.2, finished_same n (p.kept n (chamber s.0) s.2) ∙ s.3);
+    processes = λ m n c e t. let s = v.processes m n c (busy_back m _ e) t in let i = p.kept n (chamber s.0) s.2 in
+        (s.0, s.1, place_on n _ s.2, finished_same n i ∙ s.3, next_on n s.0 true i s.3 s.4);
     once = λ m k c d e f same. v.once m k c d (busy_back m _ e) (busy_back k _ f) same;
     numbers = λ m k c d e f same. v.numbers m k c d (busy_back m _ e) (busy_back k _ f) same;
     below = λ m c e. subst (λ (k : ℕ). c.number < k) (sym a.next_command) (v.below m c (busy_back m _ e));
@@ -109,12 +134,18 @@ module _ (g h : Floor) (a : Agree g h) where
     carrier = λ n e. carrier n (member_back n e);
     here = λ n e. let i = v.kept n (member_back n e) in subst (λ (k : ℕ). k ≤ 1) (sym (access_same n i)) (v.here n (member_back n e));
     complete = λ n e over. let i = member_back n e in done_same n (v.kept n i) ∙ v.complete n i (sym (a.jobs.is_complete n) ∙ over);
+    left = λ n e u. let i = member_back n e in left n (v.kept n i) i (unfinished_back n (v.kept n i) u);
   } where
     member_on : (n : ℕ) → g.jobs.is_member n ≡ true → h.jobs.is_member n ≡ true
     member_on n e = a.jobs.is_member n ∙ e
 
     member_back : (n : ℕ) → h.jobs.is_member n ≡ true → g.jobs.is_member n ≡ true
     member_back n e = sym (a.jobs.is_member n) ∙ e
+
+    left : (n : ℕ) → is_one_of g.substrates n ≡ true → g.jobs.is_member n ≡ true → is_finished (g.processing n) ≡ false → h.steps_of n < length (h.jobs.route_of n)
+    left n i is f =
+        subst (λ (k : ℕ). k < length (h.jobs.route_of n)) (sym (a.steps_of n i f))
+        (subst (λ (r : List (List ℕ)). g.steps_of n < length r) (sym (a.jobs.route_of n)) (v.left n is f))
 
     carrier : (n : ℕ) → g.jobs.is_member n ≡ true → h.jobs.names_carrier (h.carrier_of n) ≡ true
     carrier n e =
@@ -129,11 +160,21 @@ module _ (g h : Floor) (a : Agree g h) where
     done_same : (n : ℕ) → is_one_of g.substrates n ≡ true → is_done n h ≡ is_done n g
     done_same n i = ap (λ (b : Bool). b && not (is_outside (h.place_of n))) (finished_same n i) ∙ ap (λ (p : Option Loc). is_finished (g.processing n) && not (is_outside p)) (a.place_of n)
 
+  steps_on : Places g → Steps g → Steps h
+  steps_on p v = record {
+    aligned = λ n c e. let at = place_back n _ e in a.is_aligned n (p.kept n (chamber c) at) ∙ v.aligned n c at;
+    on_route = λ n c e u. let at = place_back n _ e in let i = p.kept n (chamber c) at in let f = unfinished_back n i u in let w = v.on_route n c at f in
+        (w.0, subst (λ (k : ℕ). w.0 ≤ k) (sym (a.steps_of n i f)) w.1, ap (λ (r : List (List ℕ)). is_one_of (step_at w.0 r) c) (a.jobs.route_of n) ∙ w.2);
+    in_slot = λ n q k e u. let at = place_back n _ e in let i = p.kept n (slot q k) at in a.processing n i ∙ v.in_slot n q k at (unfinished_back n i u);
+    fresh = λ n e z. let i = kept_back n e in let needs = sym (a.processing n i) ∙ z in a.steps_of n i (ap is_finished needs) ∙ v.fresh n i needs;
+  }
+
   pub agree-keeps : Valid g → Valid h
   agree-keeps v = record {
     places = places_on v.places;
     carriers = carriers_on v.carriers;
     commands = commands_on v.places v.commands;
     members = members_on v.carriers v.members;
+    steps = steps_on v.places v.steps;
     removed = λ n e gone. let i = kept_back n e in finished_same n i ∙ v.removed n i (place_back n _ gone);
   }

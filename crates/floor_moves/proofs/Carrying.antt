@@ -1,9 +1,9 @@
 -- What happens to carriers keeps what holds, and so does what process jobs say.
-use Rattle.std.proofs.Common.{◌≡◌, ◌≤◌, ℕ, ◌==◌, Bool, true, false, not, ◌&&◌, Option, Some, None, cond, refl, sym, ap, subst, ◌∙◌, ◌⊎◌, inl, inr, arith}
+use Rattle.std.proofs.Common.{◌≡◌, ◌≤◌, ℕ, ◌==◌, Bool, true, false, not, ◌&&◌, List, Option, Some, None, cond, refl, sym, ap, subst, ◌∙◌, ◌⊎◌, inl, inr, arith}
 use Rattle.std.proofs.lemmas.Bool.{false_from_ne_true, not-true}
 use Rattle.std.proofs.lemmas.Bool.Decides.{Decides-eqb, not_from_Decides}
 use Rattle.gem_tables.specs.Table.{is_one_of}
-use Rattle.floor_moves.specs.Floor.{Loc, slot, aligner, arm, chamber, Task, pick, place, align, process, named, Command, busy, idle, JobView, Floor, opening, is_outside, is_finished}
+use Rattle.floor_moves.specs.Floor.{Loc, slot, aligner, arm, chamber, Task, pick, place, align, process, named, Command, busy, idle, JobView, Floor, opening, is_outside, is_finished, step_at, next_step}
 use Rattle.floor_moves.specs.Carriers.{created, MayCreate, arrived, MayArrive, verified, forgotten, HasEnded, with_jobs}
 use Rattle.floor_moves.specs.Valid.{Empty, HasRoom, Valid, MaySay}
 use Rattle.floor_moves.proofs.Maps.{set_tells, set_else, set_both}
@@ -49,6 +49,13 @@ opening-valid chambers = record {
     carrier = λ n e. absurd (cc);
     here = λ n e. absurd (cc);
     complete = λ n e f. absurd (cc);
+    left = λ n e f. absurd (cc);
+  };
+  steps = record {
+    aligned = λ n c e. absurd (nowhere (chamber c) e);
+    on_route = λ n c e f. absurd (nowhere (chamber c) e);
+    in_slot = λ n p k e f. absurd (nowhere (slot p k) e);
+    fresh = λ n a e. refl;
   };
   removed = λ n a e. absurd (cc);
 } where
@@ -78,7 +85,9 @@ created-keeps g c new v = record {
     carrier = v.members.carrier;
     here = λ n is. set_both c (g.carrier_of n) 0 g.access (λ a. a ≤ 1) (λ same. omega arith) (λ other. v.members.here n is);
     complete = v.members.complete;
+    left = v.members.left;
   };
+  steps = v.steps;
   removed = v.removed;
 } where
   its : (n : ℕ) → is_one_of g.substrates n ≡ true → g.carrier_of n ≡ c → ⊥
@@ -106,6 +115,7 @@ arrived-keeps g c p may v = record {
   };
   commands = v.commands;
   members = v.members;
+  steps = v.steps;
   removed = v.removed;
 } where
   its : (n : ℕ) → is_one_of g.substrates n ≡ true → g.carrier_of n ≡ c → ⊥
@@ -142,6 +152,7 @@ verified-keeps g c v = record {
   };
   commands = v.commands;
   members = v.members;
+  steps = v.steps;
   removed = v.removed;
 }
 
@@ -156,31 +167,48 @@ jobs_say-keeps g view may v = record {
       robot = s.robot;
       stands = s.stands;
       free = s.free;
-      room = room n (recipe m n l c e t) s.room;
+      room = room n (route m n c e (ap named t)) s.room;
       from_slot = s.from_slot;
       from_aligner = s.from_aligner;
-      from_chamber = s.from_chamber;
+      from_chamber = λ d is u. next n d false (route m n c e (ap named t)) (s.from_chamber d is u);
       not_arm = s.not_arm;
     };
-    places = v.commands.places;
+    places = λ m n l c e t. let s = v.commands.places m n l c e t in record {
+      robot = s.robot;
+      stands = s.stands;
+      free = s.free;
+      to_slot = s.to_slot;
+      to_aligner = s.to_aligner;
+      to_chamber = λ d is. let o = s.to_chamber d is in (o.0, o.1, λ u. next n d true (route m n c e (ap named t)) (o.2 u));
+      not_arm = s.not_arm;
+    };
     aligns = v.commands.aligns;
-    processes = v.commands.processes;
+    processes = λ m n c e t. let s = v.commands.processes m n c e t in (s.0, s.1, s.2, s.3, next n s.0 true (route m n c e (ap named t)) s.4);
     once = v.commands.once;
     numbers = v.commands.numbers;
     below = v.commands.below;
-    room = λ n at. room n (may.on_arm n at) (v.commands.room n at);
+    room = λ n at. room n (may.outside_same n (ap is_outside at)) (v.commands.room n at);
     modules = v.commands.modules;
   };
   members = may.right;
+  steps = record {
+    aligned = v.steps.aligned;
+    on_route = λ n c at u. let w = v.steps.on_route n c at u in (w.0, w.1, ap (λ (r : List (List ℕ)). is_one_of (step_at w.0 r) c) (may.outside_same n (ap is_outside at)) ∙ w.2);
+    in_slot = v.steps.in_slot;
+    fresh = v.steps.fresh;
+  };
   removed = v.removed;
 } where
-  recipe : (m n : ℕ) (l : Loc) (c : Command) → g.equipment m ≡ busy c → c.task ≡ pick n l → view.chambers_of n ≡ g.jobs.chambers_of n
-  recipe m n l c e t = let its : named c.task ≡ n = ap named t in subst (λ (k : ℕ). view.chambers_of k ≡ g.jobs.chambers_of k) its (may.named_same m c e)
+  route : (m n : ℕ) (c : Command) → g.equipment m ≡ busy c → named c.task ≡ n → view.route_of n ≡ g.jobs.route_of n
+  route m n c e its = subst (λ (k : ℕ). view.route_of k ≡ g.jobs.route_of k) its (may.named_same m c e)
 
-  room : (n : ℕ) → view.chambers_of n ≡ g.jobs.chambers_of n → HasRoom n g → HasRoom n (with_jobs view g)
+  next : (n c : ℕ) (b : Bool) → view.route_of n ≡ g.jobs.route_of n → is_one_of (next_step n g) c ≡ b → is_one_of (next_step n (with_jobs view g)) c ≡ b
+  next n c b same e = ap (λ (r : List (List ℕ)). is_one_of (step_at (g.steps_of n) r) c) same ∙ e
+
+  room : (n : ℕ) → view.route_of n ≡ g.jobs.route_of n → HasRoom n g → HasRoom n (with_jobs view g)
   room n same r f = let o = r f in record {
     at_aligner = o.at_aligner;
-    in_chamber = λ al. let d = o.in_chamber al in (d.0, ap (λ (cs : _). is_one_of cs d.0) same ∙ d.1, d.2, d.3);
+    in_chamber = λ al. let d = o.in_chamber al in (d.0, next n d.0 true same d.1, d.2, d.3);
   }
 
 -- ---- a carrier is forgotten
@@ -273,7 +301,7 @@ module _ (g : Floor) (v : Valid g) (c : ℕ) (ends : HasEnded c g) where
         not_arm = s.not_arm;
       };
       aligns = λ m n d e t. let s = v.commands.aligns m n d e t in record { its_module = s.its_module; stands = member_at n aligner (in_job m n d (align n) e t refl) s.stands; unaligned = s.unaligned };
-      processes = λ m n d e t. let s = v.commands.processes m n d e t in (s.0, s.1, member_at n (chamber s.0) (in_job m n d (process n) e t refl) s.2, s.3);
+      processes = λ m n d e t. let s = v.commands.processes m n d e t in (s.0, s.1, member_at n (chamber s.0) (in_job m n d (process n) e t refl) s.2, s.3, s.4);
       once = v.commands.once;
       numbers = v.commands.numbers;
       below = v.commands.below;
@@ -288,6 +316,13 @@ module _ (g : Floor) (v : Valid g) (c : ℕ) (ends : HasEnded c g) where
       carrier = v.members.carrier;
       here = v.members.here;
       complete = λ n is over. ap (λ (x : Option Loc). is_finished (g.processing n) && not (is_outside x)) (stays_there n (not_its n is)) ∙ v.members.complete n is over;
+      left = v.members.left;
+    };
+    steps = record {
+      aligned = λ n d e. v.steps.aligned n d (was_there n (chamber d) e).1;
+      on_route = λ n d e u. v.steps.on_route n d (was_there n (chamber d) e).1 u;
+      in_slot = λ n x y e u. v.steps.in_slot n x y (was_there n (slot x y) e).1 u;
+      fresh = λ n a z. v.steps.fresh n (was_kept n a).0 z;
     };
     removed = λ n a gone. let w = was_kept n a in v.removed n w.0 (sym (stays_there n (other_carrier n w.1)) ∙ gone);
   } where

@@ -1,5 +1,5 @@
 -- Rows that change one state alone.
-use Rattle.std.proofs.Common.{◌≡◌, ℕ, ◌==◌, Bool, true, false, not, ◌&&◌, ◌||◌, refl, sym, ap, subst, ◌∙◌, ◌⊎◌, inl, inr}
+use Rattle.std.proofs.Common.{◌≡◌, ℕ, ◌==◌, Bool, true, false, not, ◌&&◌, ◌||◌, Some, refl, sym, ap, subst, ◌∙◌, ◌⊎◌, inl, inr}
 use Rattle.std.proofs.lemmas.Bool.{false_from_ne_true, cases_Bool}
 use Rattle.std.proofs.lemmas.Bool.Decides.{Decides-eqb}
 use Rattle.floor_moves.specs.Floor.{Loc, slot, pick, process, Command, busy, Floor, set, is_outside, is_finished, is_done}
@@ -10,15 +10,18 @@ use Rattle.floor_moves.proofs.Maps.{set_both}
 -- ---- table 12: nothing reads the states of transport
 
 pub transported-keeps : (g : Floor) (n state : ℕ) → Valid g → Valid (transported n state g)
-transported-keeps g n state v = record { places = v.places; carriers = v.carriers; commands = v.commands; members = v.members; removed = v.removed }
+transported-keeps g n state v = record { places = v.places; carriers = v.carriers; commands = v.commands; members = v.members; steps = v.steps; removed = v.removed }
 
 -- ---- table 13
 
--- it stays finished, and one that an open Pick from its slot or an open Process names is not finished
+-- It stays finished, and one that an open Pick from its slot or an open Process names is not finished; an unfinished one in its slot NEEDS
+-- PROCESSING, and what NEEDS PROCESSING did.
 pub record MayWork (n state : ℕ) (g : Floor) : Type 0 where
   pub stays : is_finished (g.processing n) ≡ true → is_finished state ≡ true
   pub picked : (m p k : ℕ) (c : Command) → g.equipment m ≡ busy c → c.task ≡ pick n (slot p k) → is_finished state ≡ false
   pub processed : (m : ℕ) (c : Command) → g.equipment m ≡ busy c → c.task ≡ process n → is_finished state ≡ false
+  pub in_slot : (p k : ℕ) → g.place_of n ≡ Some (slot p k) → is_finished state ≡ false → state ≡ 0
+  pub needed : state ≡ 0 → g.processing n ≡ 0
 
 module _ (g : Floor) (n state : ℕ) (may : MayWork n state g) where
   -- what was finished is finished
@@ -62,7 +65,7 @@ module _ (g : Floor) (n state : ℕ) (may : MayWork n state g) where
         room = room_stays k s.room;
         from_slot = λ p q is. set_both n k state g.processing (λ x. is_finished x ≡ false) (λ same. may.picked m p q c e (t ∙ ap (λ (i : ℕ). pick i l) same ∙ ap (λ (x : Loc). pick n x) is)) (λ other. s.from_slot p q is);
         from_aligner = λ is. or_finished k (g.is_aligned k) (s.from_aligner is);
-        from_chamber = λ d is. finished_stays k (s.from_chamber d is);
+        from_chamber = λ d is u. s.from_chamber d is (unfinished_was k u);
         not_arm = s.not_arm;
       };
       places = λ m k l c e t. let s = v.commands.places m k l c e t in record {
@@ -71,12 +74,12 @@ module _ (g : Floor) (n state : ℕ) (may : MayWork n state g) where
         free = s.free;
         to_slot = λ p q is. let old = s.to_slot p q is in (old.0, finished_stays k old.1);
         to_aligner = s.to_aligner;
-        to_chamber = s.to_chamber;
+        to_chamber = λ d is. let old = s.to_chamber d is in (old.0, old.1, λ u. old.2 (unfinished_was k u));
         not_arm = s.not_arm;
       };
       aligns = v.commands.aligns;
       processes = λ m k c e t. let s = v.commands.processes m k c e t in
-          (s.0, s.1, s.2, set_both n k state g.processing (λ x. is_finished x ≡ false) (λ same. may.processed m c e (t ∙ ap (λ (i : ℕ). process i) same)) (λ other. s.3));
+          (s.0, s.1, s.2, set_both n k state g.processing (λ x. is_finished x ≡ false) (λ same. may.processed m c e (t ∙ ap (λ (i : ℕ). process i) same)) (λ other. s.3), s.4);
       once = v.commands.once;
       numbers = v.commands.numbers;
       below = v.commands.below;
@@ -91,6 +94,13 @@ module _ (g : Floor) (n state : ℕ) (may : MayWork n state g) where
       carrier = v.members.carrier;
       here = v.members.here;
       complete = λ k is over. done_stays k (v.members.complete k is over);
+      left = λ k is u. v.members.left k is (unfinished_was k u);
+    };
+    steps = record {
+      aligned = v.steps.aligned;
+      on_route = λ k d at u. v.steps.on_route k d at (unfinished_was k u);
+      in_slot = λ k p q at. set_both n k state g.processing (λ x. is_finished x ≡ false → x ≡ 0) (λ same. may.in_slot p q (ap g.place_of (sym same) ∙ at)) (λ other. v.steps.in_slot k p q at);
+      fresh = λ k known. set_both n k state g.processing (λ x. x ≡ 0 → g.steps_of k ≡ 0) (λ same z. v.steps.fresh k known (ap g.processing same ∙ may.needed z)) (λ other. v.steps.fresh k known);
     };
     removed = λ k known gone. finished_stays k (v.removed k known gone);
   }
@@ -101,7 +111,12 @@ needing-keeps g n zero_ v = worked-keeps g n 0 (record {
   stays = λ f. absurd (unfinished f);
   picked = λ m p k c e u. refl;
   processed = λ m c e u. refl;
+  in_slot = λ p k at u. refl;
+  needed = λ e. needs;
 }) v
   where
+    needs : g.processing n ≡ 0
+    needs = (Decides-eqb (g.processing n) 0).0 zero_
+
     unfinished : is_finished (g.processing n) ≡ true → ⊥
-    unfinished f = let z : g.processing n ≡ 0 = (Decides-eqb (g.processing n) 0).0 zero_ in let no = ap is_finished z in cc
+    unfinished f = let no = ap is_finished needs in cc

@@ -56,7 +56,9 @@ module _ (g : Floor) (m : ℕ) (task : Task) where
       carrier = v.members.carrier;
       here = v.members.here;
       complete = v.members.complete;
+      left = v.members.left;
     };
+    steps = v.steps;
     removed = v.removed;
   } where
     a_pick : (k n : ℕ) (l : Loc) (c : Command) → c.task ≡ pick n l → Opened k c → PickStands k n l g
@@ -134,6 +136,8 @@ module _ (g : Floor) (m : ℕ) (state : Module) (not_busy : (c : Command) → st
       carrier = v.members.carrier;
       here = v.members.here;
       complete = v.members.complete;
+      left = v.members.left;
     };
+    steps = v.steps;
     removed = v.removed;
   }

@@ -2,6 +2,7 @@ pub mod Maps
 pub mod Scans
 pub mod Facts
 pub mod Columns
+pub mod Agreeing
 pub mod Issuing
 pub mod Moving
 pub mod Done
@@ -10,4 +11,3 @@ pub mod Registering
 pub mod Carrying
 pub mod Waiting
 pub mod Room
-pub mod Agreeing

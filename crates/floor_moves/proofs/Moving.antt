@@ -1,9 +1,9 @@
 -- Done of a Pick, a Place and an Align, and a substrate that is lost.
-use Rattle.std.proofs.Common.{◌≡◌, ℕ, true, false, not, ◌&&◌, Some, None, sym, ap, subst, ◌∙◌, ◌⊎◌, inl, inr}
+use Rattle.std.proofs.Common.{◌≡◌, ℕ, true, false, not, ◌&&◌, Some, None, sym, ap, subst, ◌∙◌, ◌⊎◌, inl, inr, arith}
 use Rattle.gem_tables.specs.Table.{is_one_of}
-use Rattle.floor_moves.specs.Floor.{Loc, slot, aligner, arm, chamber, named, Command, idle, busy, Floor, own, is_outside, is_finished, is_done}
+use Rattle.floor_moves.specs.Floor.{Loc, slot, aligner, arm, chamber, named, Command, idle, busy, Floor, own, is_outside, is_finished, next_step, is_done}
 use Rattle.floor_moves.specs.Effects.{moved}
-use Rattle.floor_moves.specs.Valid.{Empty, HasRoom, Places, Commands, Members, Valid}
+use Rattle.floor_moves.specs.Valid.{Empty, HasRoom, Places, Commands, Members, IsOnRoute, Steps, Valid}
 use Rattle.floor_moves.proofs.Maps.{set_tells, set_else, set_both}
 use Rattle.floor_moves.proofs.Issuing.{left_open}
 
@@ -77,7 +77,7 @@ module _ (g : Floor) (m n : ℕ) (l : Loc) (c : Command) (is : g.equipment m ≡
     picks = λ k i x d e t. let w = was_open k d e in absurd (w.0 ((v.commands.picks k i x d w.1 t).robot ∙ sym robot));
     places = λ k i x d e t. let w = was_open k d e in absurd (w.0 ((v.commands.places k i x d w.1 t).robot ∙ sym robot));
     aligns = λ k i d e t. let s = v.commands.aligns k i d (was_open k d e).1 t in record { its_module = s.its_module; stands = stands_still k d e i (ap named t) aligner s.stands; unaligned = s.unaligned };
-    processes = λ k i d e t. let s = v.commands.processes k i d (was_open k d e).1 t in (s.0, s.1, stands_still k d e i (ap named t) (chamber s.0) s.2, s.3);
+    processes = λ k i d e t. let s = v.commands.processes k i d (was_open k d e).1 t in (s.0, s.1, stands_still k d e i (ap named t) (chamber s.0) s.2, s.3, s.4);
     once = λ k i d f e h same. v.commands.once k i d f (was_open k d e).1 (was_open i f h).1 same;
     numbers = λ k i d f e h same. v.commands.numbers k i d f (was_open k d e).1 (was_open i f h).1 same;
     below = λ k d e. v.commands.below k d (was_open k d e).1;
@@ -94,12 +94,40 @@ module _ (g : Floor) (m n : ℕ) (l : Loc) (c : Command) (is : g.equipment m ≡
     carrier = v.members.carrier;
     here = v.members.here;
     complete = λ k is over. set_both n k (Some l) g.place_of (λ p. (is_finished (g.processing k) && not (is_outside p)) ≡ true) (λ same. absurd (never k is over same)) (λ other. v.members.complete k is over);
+    left = v.members.left;
   } where
     never : (k : ℕ) → g.jobs.is_member k ≡ true → g.jobs.is_complete k ≡ true → k ≡ n → ⊥
     never k is over same = let d = v.members.complete k is over in let e : is_done n g ≡ true = subst (λ (i : ℕ). is_done i g ≡ true) same d in cc
 
     its_member : (k : ℕ) → k ≡ n → g.jobs.is_member k ≡ true
     its_member k same = ap (λ (i : ℕ). g.jobs.is_member i) (same ∙ sym names) ∙ v.members.named m c is
+
+  -- into a chamber goes what is aligned, and unfinished to one of its next step; into a slot what is finished
+  pub moved_steps : ((d : ℕ) → l ≡ chamber d → (g.is_aligned n ≡ true) × (is_finished (g.processing n) ≡ false → is_one_of (next_step n g) d ≡ true))
+      → ((p k : ℕ) → l ≡ slot p k → is_finished (g.processing n) ≡ true) → Steps (moved n l m g)
+  moved_steps to_chamber to_slot = record {
+    aligned = λ k d e. aligned_there k d (set_tells n k (Some l) g.place_of (Some (chamber d)) e);
+    on_route = λ k d e u. routed k d u (set_tells n k (Some l) g.place_of (Some (chamber d)) e);
+    in_slot = λ k p q e u. needing k p q u (set_tells n k (Some l) g.place_of (Some (slot p q)) e);
+    fresh = v.steps.fresh;
+  } where
+    same_loc : (a b : Loc) → Some a ≡ Some b → a ≡ b
+    same_loc a b e = cc
+
+    aligned_there : (k d : ℕ) → ((k ≡ n) × (Some l ≡ Some (chamber d))) ⊎ ((k ≡ n → ⊥) × (g.place_of k ≡ Some (chamber d))) → g.is_aligned k ≡ true
+    aligned_there k d (inl t) = ap g.is_aligned t.0 ∙ (to_chamber d (same_loc l (chamber d) t.1)).0
+    aligned_there k d (inr t) = v.steps.aligned k d t.1
+
+    its_route : (d : ℕ) → is_finished (g.processing n) ≡ false → Some l ≡ Some (chamber d) → IsOnRoute n d g
+    its_route d u e = (g.steps_of n, omega arith, (to_chamber d (same_loc l (chamber d) e)).1 u)
+
+    routed : (k d : ℕ) → is_finished (g.processing k) ≡ false → ((k ≡ n) × (Some l ≡ Some (chamber d))) ⊎ ((k ≡ n → ⊥) × (g.place_of k ≡ Some (chamber d))) → IsOnRoute k d g
+    routed k d u (inl t) = subst (λ (i : ℕ). IsOnRoute i d g) (sym t.0) (its_route d (ap (λ (i : ℕ). is_finished (g.processing i)) (sym t.0) ∙ u) t.1)
+    routed k d u (inr t) = v.steps.on_route k d t.1 u
+
+    needing : (k p q : ℕ) → is_finished (g.processing k) ≡ false → ((k ≡ n) × (Some l ≡ Some (slot p q))) ⊎ ((k ≡ n → ⊥) × (g.place_of k ≡ Some (slot p q))) → g.processing k ≡ 0
+    needing k p q u (inl t) = absurd (let is : is_finished (g.processing k) ≡ true = ap (λ (i : ℕ). is_finished (g.processing i)) t.0 ∙ to_slot p q (same_loc l (slot p q) t.1) in cc)
+    needing k p q u (inr t) = v.steps.in_slot k p q t.1 u
 
   pub moved_removed : (k : ℕ) → is_one_of g.substrates k ≡ true → (moved n l m g).place_of k ≡ None → is_finished (g.processing k) ≡ true
   moved_removed k known gone = set_both n k (Some l) g.place_of (λ p. p ≡ None → is_finished (g.processing k) ≡ true) (λ same e. absurd (cc)) (λ other e. v.removed k known e) gone

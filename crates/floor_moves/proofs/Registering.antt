@@ -1,10 +1,10 @@
 -- A registration keeps what holds.
-use Rattle.std.proofs.Common.{◌≡◌, ◌<◌, ℕ, ◌+◌, Bool, true, not, ◌&&◌, ◌||◌, Option, Some, None, refl, sym, ap, subst, ◌∙◌, ◌⊎◌, inl, inr, arith}
+use Rattle.std.proofs.Common.{◌≡◌, ◌≤◌, ◌<◌, ℕ, ◌+◌, Bool, true, false, not, ◌&&◌, ◌||◌, length, Option, Some, None, refl, sym, ap, subst, ◌∙◌, ◌⊎◌, inl, inr, arith}
 use Rattle.std.proofs.lemmas.Bool.{false_from_ne_true}
 use Rattle.gem_tables.specs.Table.{is_one_of}
-use Rattle.floor_moves.specs.Floor.{Loc, slot, aligner, arm, chamber, Floor, set, own, is_outside, is_finished, is_done}
+use Rattle.floor_moves.specs.Floor.{Loc, slot, aligner, arm, chamber, Floor, set, own, is_outside, is_finished, step_at, next_step, is_done}
 use Rattle.floor_moves.specs.Carriers.{registered, MayRegister}
-use Rattle.floor_moves.specs.Valid.{Empty, HasRoom, Places, Carriers, Commands, Members, Valid}
+use Rattle.floor_moves.specs.Valid.{Empty, HasRoom, Places, Carriers, Commands, Members, Steps, Valid}
 use Rattle.floor_moves.proofs.Maps.{set_tells, set_here, set_else, set_both}
 use Rattle.floor_moves.proofs.Scans.{one_of_behind, one_of_front, one_of_last, distinct_behind}
 
@@ -92,10 +92,19 @@ module _ (g : Floor) (v : Valid g) (c p k : ℕ) (may : MayRegister c p k g) whe
   same_aligned : (n : ℕ) → (n ≡ r → ⊥) → new.is_aligned n ≡ g.is_aligned n
   same_aligned n other = set_else r n _ g.is_aligned other
 
+  same_steps : (n : ℕ) → (n ≡ r → ⊥) → new.steps_of n ≡ g.steps_of n
+  same_steps n other = set_else r n 0 g.steps_of other
+
+  same_next : (n x : ℕ) (b : Bool) → (n ≡ r → ⊥) → is_one_of (next_step n g) x ≡ b → is_one_of (next_step n new) x ≡ b
+  same_next n x b other e = ap (λ (i : ℕ). is_one_of (step_at i (g.jobs.route_of n)) x) (same_steps n other) ∙ e
+
+  was_unfinished : (n : ℕ) → (n ≡ r → ⊥) → is_finished (new.processing n) ≡ false → is_finished (g.processing n) ≡ false
+  was_unfinished n other u = sym (ap is_finished (same_processing n other)) ∙ u
+
   room_stays : (n : ℕ) → (n ≡ r → ⊥) → HasRoom n g → HasRoom n new
   room_stays n other h f = let o = h (sym (ap is_finished (same_processing n other)) ∙ f) in record {
     at_aligner = λ un. stays_empty aligner (λ e. cc) (o.at_aligner (sym (same_aligned n other) ∙ un));
-    in_chamber = λ al. let d = o.in_chamber (sym (same_aligned n other) ∙ al) in (d.0, d.1, d.2, stays_empty (chamber d.0) (λ e. cc) d.3);
+    in_chamber = λ al. let d = o.in_chamber (sym (same_aligned n other) ∙ al) in (d.0, same_next n d.0 true other d.1, d.2, stays_empty (chamber d.0) (λ e. cc) d.3);
   }
 
   was_known : (n : ℕ) → is_one_of new.substrates n ≡ true → (n ≡ r) ⊎ (is_one_of g.substrates n ≡ true)
@@ -165,7 +174,7 @@ module _ (g : Floor) (v : Valid g) (c p k : ℕ) (may : MayRegister c p k g) whe
       room = room_stays n o s.room;
       from_slot = λ x y is. ap is_finished (same_processing n o) ∙ s.from_slot x y is;
       from_aligner = λ is. subst (λ (b : Bool). (is_finished (new.processing n) || b) ≡ true) (sym (same_aligned n o)) (subst (λ (i : ℕ). (is_finished i || g.is_aligned n) ≡ true) (sym (same_processing n o)) (s.from_aligner is));
-      from_chamber = λ x is. ap is_finished (same_processing n o) ∙ s.from_chamber x is;
+      from_chamber = λ x is u. same_next n x false o (s.from_chamber x is (was_unfinished n o u));
       not_arm = s.not_arm;
     };
     places = λ m n l d e t. let s = v.commands.places m n l d e t in let o = another n arm s.stands in record {
@@ -174,11 +183,11 @@ module _ (g : Floor) (v : Valid g) (c p k : ℕ) (may : MayRegister c p k g) whe
       free = stays_empty l (λ same. end_is_free n l (v.places.kept n arm s.stands) (λ x y is. (s.to_slot x y is).0) same) s.free;
       to_slot = λ x y is. let w = s.to_slot x y is in (w.0 ∙ sym (same_own n o), ap is_finished (same_processing n o) ∙ w.1);
       to_aligner = λ is. same_aligned n o ∙ s.to_aligner is;
-      to_chamber = λ x is. let w = s.to_chamber x is in (w.0, same_aligned n o ∙ w.1);
+      to_chamber = λ x is. let w = s.to_chamber x is in (w.0, same_aligned n o ∙ w.1, λ u. same_next n x true o (w.2 (was_unfinished n o u)));
       not_arm = s.not_arm;
     };
     aligns = λ m n d e t. let s = v.commands.aligns m n d e t in let o = another n aligner s.stands in record { its_module = s.its_module; stands = still n aligner o s.stands; unaligned = same_aligned n o ∙ s.unaligned };
-    processes = λ m n d e t. let s = v.commands.processes m n d e t in let o = another n (chamber s.0) s.2 in (s.0, s.1, still n (chamber s.0) o s.2, ap is_finished (same_processing n o) ∙ s.3);
+    processes = λ m n d e t. let s = v.commands.processes m n d e t in let o = another n (chamber s.0) s.2 in (s.0, s.1, still n (chamber s.0) o s.2, ap is_finished (same_processing n o) ∙ s.3, same_next n s.0 true o s.4);
     once = v.commands.once;
     numbers = v.commands.numbers;
     below = v.commands.below;
@@ -198,6 +207,7 @@ module _ (g : Floor) (v : Valid g) (c p k : ℕ) (may : MayRegister c p k g) whe
     carrier = λ n is. ap g.jobs.names_carrier (same_carrier n is) ∙ v.members.carrier n is;
     here = λ n is. let same = ap g.access (same_carrier n is) in let less = v.members.here n is in omega (arith, same, less);
     complete = λ n is over. done n (other n is) (v.members.complete n is over);
+    left = λ n is u. let o = other n is in subst (λ (i : ℕ). i < length (g.jobs.route_of n)) (sym (same_steps n o)) (v.members.left n is (was_unfinished n o u));
   } where
     other : (n : ℕ) → g.jobs.is_member n ≡ true → n ≡ r → ⊥
     other n is same = jobless (ap g.jobs.is_member (sym same) ∙ is)
@@ -208,12 +218,28 @@ module _ (g : Floor) (v : Valid g) (c p k : ℕ) (may : MayRegister c p k g) whe
     done : (n : ℕ) → (n ≡ r → ⊥) → is_done n g ≡ true → is_done n new ≡ true
     done n w d = ap (λ (i : ℕ). is_finished i && not (is_outside (new.place_of n))) (same_processing n w) ∙ ap (λ (x : Option Loc). is_finished (g.processing n) && not (is_outside x)) (set_else r n (Some (slot p k)) g.place_of w) ∙ d
 
+  new_steps : Steps new
+  new_steps = record {
+    aligned = λ n d e. let w = was_there n (chamber d) (λ x y q. cc) e in same_aligned n w.0 ∙ v.steps.aligned n d w.1;
+    on_route = λ n d e u. let w = was_there n (chamber d) (λ x y q. cc) e in let old = v.steps.on_route n d w.1 (was_unfinished n w.0 u) in (old.0, subst (λ (i : ℕ). old.0 ≤ i) (sym (same_steps n w.0)) old.1, old.2);
+    in_slot = λ n x y e u. needing n x y u (tells n (slot x y) e);
+    fresh = λ n known. set_both r n 0 g.steps_of (λ i. new.processing n ≡ 0 → i ≡ 0) (λ same z. refl) (λ w z. v.steps.fresh n (was_kept n w (was_known n known)) (sym (same_processing n w) ∙ z));
+  } where
+    was_kept : (n : ℕ) → (n ≡ r → ⊥) → (n ≡ r) ⊎ (is_one_of g.substrates n ≡ true) → is_one_of g.substrates n ≡ true
+    was_kept n w (inl same) = absurd (w same)
+    was_kept n w (inr t) = t
+
+    needing : (n x y : ℕ) → is_finished (new.processing n) ≡ false → Tells n (slot x y) → new.processing n ≡ 0
+    needing n x y u (inl t) = ap new.processing t.0 ∙ set_here r 0 g.processing
+    needing n x y u (inr t) = same_processing n t.0 ∙ v.steps.in_slot n x y t.1 (was_unfinished n t.0 u)
+
   pub registered-keeps : Valid new
   registered-keeps = record {
     places = new_places;
     carriers = new_carriers;
     commands = new_commands;
     members = new_members;
+    steps = new_steps;
     removed = gone_one;
   } where
     gone_one : (n : ℕ) → is_one_of new.substrates n ≡ true → new.place_of n ≡ None → is_finished (new.processing n) ≡ true

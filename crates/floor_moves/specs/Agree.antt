@@ -1,8 +1,8 @@
 -- Two floors that say the same of what is kept (this tool's profile, substrates and moves). A column says something of each number,
 -- and what it says of a substrate that was forgotten counts for nothing.
-use Rattle.std.specs.Prelude.{◌≡◌, ℕ, true, Option, Some}
+use Rattle.std.specs.Prelude.{◌≡◌, ℕ, true, false, Option, Some}
 use Rattle.gem_tables.specs.Table.{is_one_of}
-use Rattle.floor_moves.specs.Floor.{JobView, Floor}
+use Rattle.floor_moves.specs.Floor.{JobView, Floor, is_finished}
 
 -- Two views of process jobs say the same of each substrate, and of each carrier that is present at a port.
 pub record SayAlike (present_at : ℕ → Option ℕ) (v w : JobView) : Type 0 where
@@ -11,11 +11,12 @@ pub record SayAlike (present_at : ℕ → Option ℕ) (v w : JobView) : Type 0 w
   pub is_stopping : (n : ℕ) → w.is_stopping n ≡ v.is_stopping n
   pub is_aborting : (n : ℕ) → w.is_aborting n ≡ v.is_aborting n
   pub is_complete : (n : ℕ) → w.is_complete n ≡ v.is_complete n
-  pub chambers_of : (n : ℕ) → w.chambers_of n ≡ v.chambers_of n
+  pub route_of : (n : ℕ) → w.route_of n ≡ v.route_of n
   pub names_carrier : (c p : ℕ) → present_at c ≡ Some p → w.names_carrier c ≡ v.names_carrier c
   pub is_marked : (c p : ℕ) → present_at c ≡ Some p → w.is_marked c ≡ v.is_marked c
 
--- the same substrates, carriers, jobs, chambers and modules, and the same of each
+-- The same substrates, carriers, jobs, chambers and modules, and the same of each. The steps that are done are asked of the
+-- unfinished alone.
 pub record Agree (g h : Floor) : Type 0 where
   pub substrates : h.substrates ≡ g.substrates
   pub next_substrate : h.next_substrate ≡ g.next_substrate
@@ -25,6 +26,7 @@ pub record Agree (g h : Floor) : Type 0 where
   pub place_of : (n : ℕ) → h.place_of n ≡ g.place_of n
   pub processing : (n : ℕ) → is_one_of g.substrates n ≡ true → h.processing n ≡ g.processing n
   pub is_aligned : (n : ℕ) → is_one_of g.substrates n ≡ true → h.is_aligned n ≡ g.is_aligned n
+  pub steps_of : (n : ℕ) → is_one_of g.substrates n ≡ true → is_finished (g.processing n) ≡ false → h.steps_of n ≡ g.steps_of n
   pub carriers : h.carriers ≡ g.carriers
   pub present_at : (c : ℕ) → h.present_at c ≡ g.present_at c
   pub is_verified : (c : ℕ) → is_one_of g.carriers c ≡ true → h.is_verified c ≡ g.is_verified c

@@ -39,7 +39,7 @@ abbrev pub verified : ℕ → Floor → Floor
 verified c g = record g { is_verified = set c true g.is_verified }
 
 -- The substrate in a slot of the carrier at a port is registered, under the next number: it is in its slot, AT SOURCE, NEEDS
--- PROCESSING, and not aligned.
+-- PROCESSING, and not aligned, and no step of its route is done.
 abbrev pub registered : ℕ → ℕ → ℕ → Floor → Floor
 registered c p k g =
     record g {
@@ -52,6 +52,7 @@ registered c p k g =
       transport = set g.next_substrate 0 g.transport;
       processing = set g.next_substrate 0 g.processing;
       is_aligned = set g.next_substrate false g.is_aligned;
+      steps_of = set g.next_substrate 0 g.steps_of;
     }
 
 -- the carrier is present at the port with map VERIFIED, and no substrate of that slot of it is registered

@@ -16,6 +16,10 @@ transported n state g = record g { transport = set n state g.transport }
 abbrev pub worked : ℕ → ℕ → Floor → Floor
 worked n state g = record g { processing = set n state g.processing }
 
+-- row 3 of table 13: the last step of the route of a substrate is done, and it is PROCESSED
+abbrev pub processed : ℕ → Floor → Floor
+processed n g = record g { processing = set n 2 g.processing; steps_of = set n (g.steps_of n + 1) g.steps_of }
+
 -- row 8 of table 13: the substrate is LOST, and its place is Removed
 abbrev pub lost : ℕ → Floor → Floor
 lost n g = record g { processing = set n 6 g.processing; place_of = set n None g.place_of }
@@ -40,3 +44,7 @@ moved n to m g = record g { place_of = set n (Some to) g.place_of; equipment = s
 -- row 6, Done of Align: the substrate is aligned; Idle
 abbrev pub aligned : ℕ → ℕ → Floor → Floor
 aligned n m g = record g { is_aligned = set n true g.is_aligned; equipment = set m idle g.equipment }
+
+-- row 7, Done of Process, where the step of the substrate isn't the last and its job isn't ABORTING: the step is done; Idle
+abbrev pub stepped : ℕ → ℕ → Floor → Floor
+stepped n m g = record g { steps_of = set n (g.steps_of n + 1) g.steps_of; equipment = set m idle g.equipment }

@@ -1,7 +1,7 @@
 -- The shop floor by numbers: substrates, carriers and modules at a moment (after SEMI E87 and E90; this tool's profile, carriers,
 -- substrates and moves). Each column is a map from the number of an object. What it gives of a number that is none counts for
 -- nothing.
-use Rattle.std.specs.Prelude.{ℕ, suc, ◌==◌, Bool, true, false, not, ◌&&◌, ◌||◌, if◌then◌else◌, List, [], ◌∷◌, find, map, Option, Some, None}
+use Rattle.std.specs.Prelude.{ℕ, zero, suc, ◌==◌, Bool, true, false, not, ◌&&◌, ◌||◌, if◌then◌else◌, List, [], ◌∷◌, find, map, Option, Some, None}
 
 -- a location: a slot of a number at the port of a number, the aligner, the robot's arm, the chamber of a number, from 1 on
 pub data Loc : Type 0 where
@@ -44,15 +44,15 @@ pub data Module : Type 0 where
   down : Module
 
 -- What process jobs say of substrates and carriers (after SEMI E40). Of a substrate: it is in a job; its job is PROCESSING,
--- STOPPING, ABORTING or PROCESS COMPLETE; the chambers of the recipe of its job. Of a carrier: a job names it; it is marked
--- stopped.
+-- STOPPING, ABORTING or PROCESS COMPLETE; the route of the recipe of its job, a list of steps, each with its chambers. Of a
+-- carrier: a job names it; it is marked stopped.
 pub record JobView : Type 0 where
   pub is_member : ℕ → Bool
   pub may_start : ℕ → Bool
   pub is_stopping : ℕ → Bool
   pub is_aborting : ℕ → Bool
   pub is_complete : ℕ → Bool
-  pub chambers_of : ℕ → List ℕ
+  pub route_of : ℕ → List (List ℕ)
   pub names_carrier : ℕ → Bool
   pub is_marked : ℕ → Bool
 
@@ -65,11 +65,13 @@ pub record Floor : Type 0 where
   pub carrier_of : ℕ → ℕ
   pub port_of : ℕ → ℕ
   pub slot_of : ℕ → ℕ
-  -- its place, none where it is Removed; the numbers of its states in tables 12 and 13; whether it is aligned
+  -- its place, none where it is Removed; the numbers of its states in tables 12 and 13; whether it is aligned; and how many steps of
+  -- its route are done
   pub place_of : ℕ → Option Loc
   pub transport : ℕ → ℕ
   pub processing : ℕ → ℕ
   pub is_aligned : ℕ → Bool
+  pub steps_of : ℕ → ℕ
   -- the carriers that are known, in the order of their creation; of each the port at which it is present, where it is until the row
   -- that forgets it has fired, whether its slot map is VERIFIED, and the number of its state in table 10
   pub carriers : List ℕ
@@ -91,7 +93,7 @@ no_jobs = record {
   is_stopping = λ n. false;
   is_aborting = λ n. false;
   is_complete = λ n. false;
-  chambers_of = λ n. [];
+  route_of = λ n. [] ∷ [];
   names_carrier = λ c. false;
   is_marked = λ c. false;
 }
@@ -108,6 +110,7 @@ opening chambers = record {
   transport = λ n. 0;
   processing = λ n. 0;
   is_aligned = λ n. false;
+  steps_of = λ n. 0;
   carriers = [];
   present_at = λ c. None;
   is_verified = λ c. false;
@@ -156,6 +159,20 @@ is_outside (Some (chamber c)) = true
 -- a substrate is finished: it is neither NEEDS PROCESSING nor IN PROCESS
 abbrev pub is_finished : ℕ → Bool
 is_finished state = not ((state == 0) || (state == 1))
+
+-- ---- routes
+
+-- the step of a number of a route, from 0 on; no chamber where there is none
+abbrev pub step_at : ℕ → List (List ℕ) → List ℕ
+step_at k [] = []
+step_at zero (step ∷ steps) = step
+step_at (suc k) (step ∷ steps) = step_at k steps
+
+-- the next step of a substrate: the first of its route that isn't done; no chamber where all are
+abbrev pub next_step : ℕ → Floor → List ℕ
+next_step n g = step_at (g.steps_of n) (g.jobs.route_of n)
+
+-- ---- what is done
 
 -- it is finished, and in its slot or Removed
 abbrev pub is_done : ℕ → Floor → Bool

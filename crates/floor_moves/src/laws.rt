@@ -1,9 +1,9 @@
 //! Laws of the moves, for proofs to cite. Each function is empty: what it ensures holds of the definitions.
 
-ghost use Rattle.std.specs.Prelude.{◌≡◌, ◌≤◌, ℕ, ◌*◌, ◌==◌, true, List, length};
+ghost use Rattle.std.specs.Prelude.{◌≡◌, ◌≤◌, ◌<◌, ℕ, ◌+◌, ◌*◌, ◌==◌, true, List, length};
 ghost use Rattle.gem_tables.specs.Table.{is_one_of};
-ghost use Rattle.floor_moves.specs.Floor.{slot, Command, busy, JobView, Floor, opening};
-ghost use Rattle.floor_moves.specs.Effects.{transported, worked};
+ghost use Rattle.floor_moves.specs.Floor.{slot, process, Command, idle, busy, JobView, Floor, opening};
+ghost use Rattle.floor_moves.specs.Effects.{transported, worked, turned, processed, stepped};
 ghost use Rattle.floor_moves.specs.Carriers.{created, MayCreate, arrived, MayArrive, verified, registered, MayRegister, AreWithin, forgotten, HasEnded, with_jobs};
 ghost use Rattle.floor_moves.specs.Valid.{Empty, Valid, MaySay, HaveChambers};
 ghost use Rattle.floor_moves.specs.Agree.{Agree};
@@ -29,6 +29,19 @@ pub fn what_holds_is_kept_as_carriers_come_and_go()
     ensures jobs { (g : Floor) (view : JobView) → Valid g → MaySay view g → Valid (with_jobs view g) }
 {}
 
+/// What holds is kept by Done of a Process. Where the step of its substrate isn't the last, that is done, and each step that is left has
+/// its chamber still. Where it is the last, or the process job is ABORTING, the command is closed, and then the substrate is PROCESSED, or
+/// ABORTED.
+pub fn what_holds_is_kept_as_steps_are_done()
+    ensures step { (g : Floor) (m n : ℕ) (c : Command) → Valid g → g.equipment m ≡ busy c → c.task ≡ process n → g.processing n ≡ 1
+        → g.steps_of n + 1 < length (g.jobs.route_of n) → Valid (stepped n m g) }
+    ensures chambers { (g : Floor) (m n : ℕ) → HaveChambers g → HaveChambers (stepped n m g) }
+    ensures last { (g : Floor) (m n : ℕ) (c : Command) → Valid g → g.equipment m ≡ busy c → c.task ≡ process n
+        → Valid (processed n (turned m idle g)) }
+    ensures aborted { (g : Floor) (m n : ℕ) (c : Command) → Valid g → g.equipment m ≡ busy c → c.task ≡ process n
+        → Valid (worked n 3 (turned m idle g)) }
+{}
+
 /// What holds of a floor holds of each that says the same of what is kept: what the columns say of a substrate that was forgotten
 /// counts for nothing.
 pub fn what_holds_is_said_of_what_is_kept()
@@ -46,8 +59,8 @@ pub fn each_substrate_has_one_place()
     ensures { (g : Floor) → Valid g → OnePlace g }
 {}
 
-/// Where the floor is at rest if no command is open, the recipe of each substrate in a job has a chamber of the tool, and work is left
-/// for a substrate that is kept, a command is open: the moves never stand still with work to do.
+/// Where the floor is at rest if no command is open, the steps of the route of each substrate in a job rise, each that isn't done with a
+/// chamber of the tool, and work is left for a substrate that is kept, a command is open: the moves never stand still with work to do.
 pub fn a_command_is_open_while_work_is_left()
     ensures { (g : Floor) (n : ℕ) → Valid g → HaveChambers g → (((m : ℕ) (c : Command) → g.equipment m ≡ busy c → ⊥) → AtRest g)
         → is_one_of g.substrates n ≡ true → is_work_left n g ≡ true → IsOpen g }

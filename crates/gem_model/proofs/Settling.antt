@@ -17,7 +17,6 @@ use Rattle.note_line.specs.Line.{Line}
 use Rattle.note_line.specs.Line as notes
 use Rattle.note_line.specs.Left.{left as left_line}
 use Rattle.note_line.specs.Table3 as table
-use Rattle.note_line.specs.Table3.{row_effect}
 use Rattle.note_line.proofs.Falls.{least-falls, noted-left}
 use Rattle.gem_model.specs.State.{State, is_online, around}
 use Rattle.gem_model.specs.Values.{Occasion, value_of}

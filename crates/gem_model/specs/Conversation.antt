@@ -1,5 +1,5 @@
 -- A conversation with the tool: lines in, lines out.
-use Rattle.std.specs.Prelude.{ℕ, ◌+◌, true, false, List, [], ◌∷◌, codes, map}
+use Rattle.std.specs.Prelude.{ℕ, ◌+◌, false, List, [], ◌∷◌, codes, map}
 use Rattle.hsms_frame.specs.declared.frame.Header.{Header}
 use Rattle.hsms_frame.specs.declared.frame.Arrival.TheVariants as arrival
 use Rattle.tool_tasks.specs.Chambers.{chambers_to}
@@ -37,7 +37,7 @@ worked_config = record {
   max_entries = 4000000;
   max_bytes = 536870912;
   start_moment = record { 0 = 0 };
-  recipes = record { name = codes "R1"; chambers = chambers_to 2 } ∷ [];
+  recipes = record { name = codes "R1"; route = chambers_to 2 ∷ [] } ∷ [];
   tcp_port = 5000;
 }
 

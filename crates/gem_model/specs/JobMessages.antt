@@ -1,7 +1,7 @@
 -- What the host asks of process jobs and control jobs, and what is done (SEMI E40, S16F5, S16F11, S16F17, S16F19 and S16F21; SEMI E94,
 -- S14F9 and S16F27; this tool's profile, messages). What is asked, and why it isn't done, is in request_model. All is by the jobs before the
 -- message.
-use Rattle.std.specs.Prelude.{ℕ, Bool, not, if◌then◌else◌, List, [], ◌∷◌, map, Option, Some, None, is_some}
+use Rattle.std.specs.Prelude.{ℕ, not, if◌then◌else◌, List, [], ◌∷◌, map, Option, Some, None, is_some}
 use Rattle.gem_tables.specs.declared.firing.Firing.{Firing}
 use Rattle.item_model.specs.Data.{Data}
 use Rattle.tool_tasks.specs.declared.words.JobWord.{JobWord}
@@ -13,7 +13,6 @@ use Rattle.control_job.specs.Commands.{command_answer}
 use Rattle.tool_jobs.specs.Jobs.{Jobs}
 use Rattle.tool_jobs.specs.Creating.{with_process, with_control}
 use Rattle.floor_model.specs.Floor.{with_jobs}
-use Rattle.message_model.specs.declared.material.CarrierSlots.{CarrierSlots}
 use Rattle.message_model.specs.declared.shop_reply.ErrorPart.{ErrorPart}
 use Rattle.message_model.specs.declared.shop_reply.JobAcknowledge.{JobAcknowledge}
 use Rattle.message_model.specs.declared.shop_reply.JobState.{JobState}
@@ -23,8 +22,7 @@ use Rattle.message_model.specs.declared.shop_reply.ShopReply.TheVariants as repl
 use Rattle.request_model.specs.declared.error.JobError.{JobError}
 use Rattle.request_model.specs.declared.control.ControlRequest.{ControlRequest}
 use Rattle.request_model.specs.Errors.{error_code, error_text}
-use Rattle.request_model.specs.Attributes.{Attribute}
-use Rattle.request_model.specs.Requests.{command_named, command_error, command_rows, asked_process, process_error, process_rows, asked_control, request_error, control_rows, cancel_error, cancelled, cancel_rows, control_command_error, control_after, control_command_rows}
+use Rattle.request_model.specs.Requests.{command_error, command_rows, process_error, process_rows, request_error, control_rows, cancel_error, cancelled, cancel_rows, control_command_error, control_after, control_command_rows}
 use Rattle.gem_model.specs.State.{State}
 use Rattle.gem_model.specs.Remote.{is_local}
 use Rattle.gem_model.specs.HostMessages.{ShopTold, Done}

@@ -24,6 +24,8 @@ pub mod Due
 pub mod Step
 pub mod Run
 pub mod OpenNotes
+pub mod Inputs
+pub mod Occurrences
 pub mod Reported
 pub mod Sessions
 pub mod Sizes

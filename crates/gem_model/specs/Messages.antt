@@ -42,7 +42,7 @@ use Rattle.gem_model.specs.Noting.{alcd, text_of_alarm, clears_alarm}
 use Rattle.gem_model.specs.Remote.{Decision, refused, goes_local, clears, commands, decided, hcack_number}
 use Rattle.gem_model.specs.Spooling.{rspack, refusals, spools, unload_rows}
 use Rattle.gem_model.specs.Direct.{by_comm, by_control}
-use Rattle.gem_model.specs.HostMessages.{HostMessage, Gem, Shop, HostReply, GemTold, ShopTold, Done}
+use Rattle.gem_model.specs.HostMessages.{HostMessage, Gem, Shop, GemTold, ShopTold, Done}
 use Rattle.gem_model.specs.JobMessages.{process_done, control_done, command_done, cancel_done, control_command_done, list_done, space_done}
 use Rattle.gem_model.specs.Shop.{carrier_action, port_word, carrier_caack, port_caack}
 

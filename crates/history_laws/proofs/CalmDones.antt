@@ -22,8 +22,10 @@ use Rattle.gem_model.specs.State.{State, raised}
 use Rattle.gem_model.specs.Machines.{row_starts}
 use Rattle.gem_model.specs.Fire.{advanced}
 use Rattle.gem_model.specs.Direct.{Are}
-use Rattle.gem_model.specs.Signals.{lacks_module, module_of}
-use Rattle.history_laws.specs.Calm.{fired_of, rows_of_act, disturbs, is_calm}
+use Rattle.gem_model.specs.Signals.{lacks_module, module_of, answer_alarm}
+use Rattle.gem_model.specs.Occurrences.{RowFires, rows_among, on_listed, on_setting, occurrences}
+use Rattle.gem_model.proofs.Occurring.{set_written}
+use Rattle.history_laws.specs.Calm.{disturbs, is_calm}
 
 module _ (number : ℕ) (counted : ℕ → Bool) (f : ToolFloor) where
   -- a row doesn't disturb it
@@ -34,11 +36,11 @@ module _ (number : ℕ) (counted : ℕ → Bool) (f : ToolFloor) where
   abbrev any_disturbs : List Firing → Bool
   any_disturbs xs = list_any (disturbs number counted f) xs
 
-  fired_spares : (xs : List Firing) → Are Spares xs → (g : State) → any_disturbs (fired_of xs g) ≡ false
+  fired_spares : (xs : List Firing) → Are Spares xs → (g : State) → any_disturbs (rows_among (on_listed xs g)) ≡ false
   fired_spares [] are g = refl
   fired_spares (x ∷ xs) are g = of (row_starts g x) (λ h. fired_spares xs are.1 h) where
-    of : (b : Bool) → ((h : State) → any_disturbs (fired_of xs h) ≡ false) → any_disturbs (if b then x ∷ fired_of xs (advanced g x) else fired_of xs g) ≡ false
-    of true later = ap (λ (b : Bool). b || any_disturbs (fired_of xs (advanced g x))) are.0 ∙ later (advanced g x)
+    of : (b : Bool) → ((h : State) → any_disturbs (rows_among (on_listed xs h)) ≡ false) → any_disturbs (rows_among (if b then RowFires g x ∷ on_listed xs (advanced g x) else on_listed xs g)) ≡ false
+    of true later = ap (λ (b : Bool). b || any_disturbs (rows_among (on_listed xs (advanced g x)))) are.0 ∙ later (advanced g x)
     of false later = later g
 
   module _ (none : (n : ℕ) → counted n ≡ true → is_of_aborting (substrate_numbered n f.substrates) f ≡ false) where
@@ -66,10 +68,10 @@ module _ (number : ℕ) (counted : ℕ → Bool) (f : ToolFloor) where
     module_spares m (Some (Busy c fetched)) = task_spares m c.task
 
     -- the rows of Done, where the module has the command open
-    done_spares : (lacks opened : Bool) (m : ℕ) (g : State) → any_disturbs (if lacks then [] else (if opened then fired_of (done_rows m f) g else [])) ≡ false
+    done_spares : (lacks opened : Bool) (m : ℕ) (g : State) → any_disturbs (rows_among (if lacks then [] else (if opened then on_listed (done_rows m f) g else on_setting answer_alarm g))) ≡ false
     done_spares true opened m g = refl
     done_spares false true m g = fired_spares (done_rows m f) (module_spares m (module_at m f.modules)) g
-    done_spares false false m g = refl
+    done_spares false false m g = ap (λ (fs : List Firing). any_disturbs fs) (set_written g answer_alarm).rowless
 
 pub done_calm : (number : ℕ) (counted : ℕ → Bool) (g : State) (entry : Entry) (m : ModuleId) (command : CmdNo) → entry.event ≡ event.Signal (signal.Done m command)
     → ((n : ℕ) → counted n ≡ true → is_of_aborting (substrate_numbered n g.floor.substrates) g.floor ≡ false) → is_calm number counted g entry ≡ true
@@ -77,11 +79,11 @@ done_calm number counted g entry m command is none = ap not (of g.quitting) wher
   h : State
   h = raised g entry.at.0
 
-  acted : any_disturbs number counted g.floor (rows_of_act g.moment h entry.event) ≡ false
+  acted : any_disturbs number counted g.floor (rows_among (occurrences g.moment h entry.event)) ≡ false
   acted =
-      subst (λ (e : Event). any_disturbs number counted g.floor (rows_of_act g.moment h e) ≡ false) (sym is)
+      subst (λ (e : Event). any_disturbs number counted g.floor (rows_among (occurrences g.moment h e)) ≡ false) (sym is)
       (done_spares number counted g.floor none (lacks_module m.0 h) (is_open command.0 (module_of m.0 h)) m.0 h)
 
-  of : (b : Bool) → any_disturbs number counted g.floor (if b then [] else rows_of_act g.moment h entry.event) ≡ false
+  of : (b : Bool) → any_disturbs number counted g.floor (if b then [] else rows_among (occurrences g.moment h entry.event)) ≡ false
   of true = refl
   of false = acted

@@ -1,5 +1,5 @@
 -- An input of which no row disturbs the control job leaves it calm: what it writes does, and each row that it fires.
-use Rattle.std.proofs.Common.{◌≡◌, ℕ, ◌+◌, ◌==◌, Bool, true, false, not, ◌&&◌, if◌then◌else◌, List, [], ◌∷◌, map, Option, Some, None, refl, sym, ◌∙◌, ap, subst}
+use Rattle.std.proofs.Common.{◌≡◌, ℕ, ◌+◌, ◌==◌, Bool, true, false, not, ◌&&◌, if◌then◌else◌, List, [], ◌∷◌, ◌++◌, map, Option, Some, None, refl, sym, ◌∙◌, ap, subst}
 use Rattle.std.specs.List.{list_any}
 use Rattle.std.proofs.lemmas.Bool.{true≢false, or_parts}
 use Rattle.gem_tables.specs.Table.{firing}
@@ -41,26 +41,27 @@ use Rattle.gem_model.specs.Fire.{fire_listed, advanced}
 use Rattle.gem_model.specs.Noting.{sets_alarm}
 use Rattle.gem_model.specs.Sending.{data_header, sends_stream9}
 use Rattle.gem_model.specs.Direct.{Are, answer_rows, session_end_rows, timeout_rows, operator_rows}
-use Rattle.gem_model.specs.Signals.{lacks_port, port_row_starts, port_alarm, with_arrival, removed, lacks_module, module_of, module_alarm, signalled}
+use Rattle.gem_model.specs.Signals.{lacks_port, port_row_starts, port_alarm, with_arrival, removed, lacks_module, module_of, module_alarm, answer_alarm, signalled}
 use Rattle.gem_model.specs.JobMessages.{jobs_of}
-use Rattle.gem_model.specs.HostMessages.{reply_text}
+use Rattle.gem_model.specs.HostMessages.{HostMessage, reply_text}
 use Rattle.gem_model.specs.Messages.{done}
 use Rattle.gem_model.specs.Verdict.{Verdict, Answers, Taken, verdict, header_of, item_of, stream_of, function_of}
 use Rattle.gem_model.specs.Act.{replied, note_answered}
 use Rattle.gem_model.specs.Due.{Due, EndOfSession, Linktest, Timeout, dues, is_due, due_done}
 use Rattle.gem_model.specs.Step.{Outcome, answered, acts, linked, switched}
+use Rattle.gem_model.specs.Occurrences.{Occurrence, RowFires, rows_among, on_listed, on_rows, on_setting, on_message, on_taken, on_closing, on_data, on_session_end, on_host, on_switched, on_operator, on_due, on_dues, occurrences}
+use Rattle.gem_model.proofs.Occurring.{rows_both, rows_behind, set_written, message_written, switched_written, event_occurs}
 use Rattle.gem_model.proofs.Tests.{either_way}
 use Rattle.gem_model.proofs.OnFloor.{effect_as, starts_as}
 use Rattle.gem_model.proofs.EachFloor.{SameFloor, floor_comm, floor_control, floor_line}
 use Rattle.gem_model.proofs.FloorRows.{advanced_keeps, creations_is, effect_is, starts_is}
 use Rattle.gem_model.proofs.Listed.{IsFree, are_both, listed_answer, listed_timeout, listed_ended, listed_disable, free_enable, free_online, free_offline, free_local, free_remote, free_service, free_access, free_up, free_command, free_control}
 use Rattle.history_laws.specs.Completes.{input_of}
-use Rattle.history_laws.specs.Calm.{fired_of, fired_by, rows_of_closing, rows_of_data, rows_of_session_end, rows_of_host, rows_of_operator, rows_of_due, rows_of_dues, rows_of_act, rows_of_input, disturbs, is_calm}
-use Rattle.history_laws.specs.Fires.{WritesFloor, writes_nothing, writes_arrival, writes_carrier, creates_process, creates_control, makes_head, fetches, AreFired, Fires}
+use Rattle.history_laws.specs.Calm.{rows_of_input, disturbs, is_calm}
+use Rattle.gem_model.specs.Inputs.{WritesFloor, writes_nothing, writes_arrival, writes_carrier, creates_process, creates_control, makes_head, fetches, AreFired, Fires}
 use Rattle.history_laws.proofs.CommonRows.{is_4, is_7, advanced_floor}
 use Rattle.history_laws.proofs.FloorFacts.{fact_creation}
 use Rattle.history_laws.proofs.Completing.{acted_so}
-use Rattle.history_laws.proofs.Fires.{act_fires}
 use Rattle.history_laws.proofs.CalmRows.{Calm, calm_base, calm_shop, calm_fetched, calm_removed, calm_row, calm_created, calm_added, calm_headed}
 use Rattle.history_laws.proofs.InputRows.{IsInput, AreInputs, free_inputs, end_inputs, placing_inputs, done_inputs, failed_inputs, down_inputs, lost_inputs, message_inputs}
 
@@ -114,25 +115,36 @@ module _ (number : ℕ) (counted : ℕ → Bool) (f : ToolFloor) where
 
 -- ---- the rows of an event, but for a removal
 
+-- the rows among these are such as inputs fire
+abbrev OfInputs : List Occurrence → Type 0
+OfInputs xs = AreInputs (rows_among xs)
+
 -- of rows that inputs fire those that start are such
-fired_inputs : (xs : List Firing) → AreInputs xs → (g : State) → AreInputs (fired_of xs g)
+fired_inputs : (xs : List Firing) → AreInputs xs → (g : State) → OfInputs (on_listed xs g)
 fired_inputs [] are g = tt
 fired_inputs (x ∷ xs) are g = of (row_starts g x) (λ h. fired_inputs xs are.1 h) where
-  of : (b : Bool) → ((h : State) → AreInputs (fired_of xs h)) → AreInputs (if b then x ∷ fired_of xs (advanced g x) else fired_of xs g)
+  of : (b : Bool) → ((h : State) → OfInputs (on_listed xs h)) → OfInputs (if b then RowFires g x ∷ on_listed xs (advanced g x) else on_listed xs g)
   of true later = (are.0, later (advanced g x))
   of false later = later g
 
-session_inputs : (g : State) → AreInputs (rows_of_session_end g)
+-- and so are those behind what has no row
+behind_inputs : (xs ys : List Occurrence) → rows_among xs ≡ [] → OfInputs ys → OfInputs (xs ++ ys)
+behind_inputs xs ys none are = subst AreInputs (sym (rows_behind xs ys none)) are
+
+alarm_inputs : (alid : ℕ) (g : State) → OfInputs (on_setting alid g)
+alarm_inputs alid g = subst AreInputs (sym (set_written g alid).rowless) tt
+
+session_inputs : (g : State) → OfInputs (on_session_end g)
 session_inputs g = fired_inputs (session_end_rows g) (end_inputs (session_end_rows g) (listed_ended g)) (without_session g)
 
-closing_inputs : (h : Header) (item : Option Data) (one : Option Open) (g : State) → AreInputs (rows_of_closing h item one g)
+closing_inputs : (h : Header) (item : Option Data) (one : Option Open) (g : State) → OfInputs (on_closing h item one g)
 closing_inputs h item None g = tt
 closing_inputs h item (Some one) g =
     let told : State = note_answered one.what (record g { transactions = taken_out (Some one) g.transactions }) in
     let rows : List Firing = answer_rows one.what (function_of h) item told in
     fired_inputs rows (end_inputs rows (listed_answer one.what (function_of h) item told)) told
 
-due_inputs : (due : Due) (g : State) → AreInputs (rows_of_due due g)
+due_inputs : (due : Due) (g : State) → OfInputs (on_due due g)
 due_inputs (EndOfSession cause) g = session_inputs g
 due_inputs Linktest g = tt
 due_inputs (Timeout one) g =
@@ -140,27 +152,39 @@ due_inputs (Timeout one) g =
     let rows : List Firing = timeout_rows one.what told in
     fired_inputs rows (end_inputs rows (listed_timeout one.what told)) told
 
-dues_inputs : (ds : List Due) (g : State) → AreInputs (rows_of_dues ds g)
+dues_inputs : (ds : List Due) (g : State) → OfInputs (on_dues ds g)
 dues_inputs [] g = tt
-dues_inputs (due ∷ ds) g = are_both IsInput (rows_of_due due g) (rows_of_dues ds (due_done due g)) (due_inputs due g) (dues_inputs ds (due_done due g))
+dues_inputs (due ∷ ds) g =
+    let first : List Occurrence = on_due due g in
+    let next : List Occurrence = on_dues ds (due_done due g) in
+    subst AreInputs (sym (rows_both first next)) (are_both IsInput (rows_among first) (rows_among next) (due_inputs due g) (dues_inputs ds (due_done due g)))
 
-data_inputs : (h : Header) (item : Option Data) (v : Verdict) (g : State) → AreInputs (rows_of_data h item v g)
+taken_inputs : (h : Header) (m : HostMessage) (g : State) → OfInputs (on_taken h m g)
+taken_inputs h m g =
+    let d = done g m in
+    let told : State = replied h (function_of h + 1) (reply_text d.reply) d.after in
+    behind_inputs (on_message m g) (on_listed d.rows told) (message_written g m).rowless (fired_inputs d.rows (message_inputs m g) told)
+
+data_inputs : (h : Header) (item : Option Data) (v : Verdict) (g : State) → OfInputs (on_data h item v g)
 data_inputs h item Answers g = let one = found_open h.system (stream_of h) (function_of h) g.transactions.opened in closing_inputs h item one g
-data_inputs h item (Taken m) g = let d = done g m in fired_inputs d.rows (message_inputs m g) (replied h (function_of h + 1) (reply_text d.reply) d.after)
+data_inputs h item (Taken m) g = taken_inputs h m g
 data_inputs h item _ g = tt
 
-host_inputs : (g : State) (arrival : Arrival) (act : LinkAct) → AreInputs (rows_of_host g arrival act)
+host_inputs : (g : State) (arrival : Arrival) (act : LinkAct) → OfInputs (on_host g arrival act)
 host_inputs g arrival link.Data = data_inputs (header_of arrival) (item_of arrival) (verdict g arrival) g
 host_inputs g arrival link.Ended = session_inputs g
 host_inputs g arrival _ = tt
 
-by_free : (command : OperCmd) (g : State) → Are IsFree (operator_rows command (switched command g)) → AreInputs (fired_by (operator_rows command) (switched command g))
-by_free command g free = fired_inputs (operator_rows command (switched command g)) (free_inputs (operator_rows command (switched command g)) free) (switched command g)
+by_free : (command : OperCmd) (g : State) → Are IsFree (operator_rows command (switched command g)) → OfInputs (on_switched command g ++ on_rows (operator_rows command) (switched command g))
+by_free command g free =
+    let h : State = switched command g in
+    let rows : List Firing = operator_rows command h in
+    behind_inputs (on_switched command g) (on_listed rows h) (switched_written g command).rowless (fired_inputs rows (free_inputs rows free) h)
 
-operator_inputs : (command : OperCmd) (g : State) → AreInputs (rows_of_operator command g)
-operator_inputs oper.Quit g = either_way AreInputs (is_up g) (rows_of_session_end g) [] (session_inputs g) tt
+operator_inputs : (command : OperCmd) (g : State) → OfInputs (on_operator command g)
+operator_inputs oper.Quit g = either_way OfInputs (is_up g) (on_session_end g) [] (session_inputs g) tt
 operator_inputs oper.Disable g = fired_inputs (operator_rows oper.Disable g) (end_inputs (operator_rows oper.Disable g) (listed_disable g)) g
-operator_inputs (oper.Clear n) g = tt
+operator_inputs (oper.Clear n) g = by_free (oper.Clear n) g tt
 operator_inputs (oper.Lost sub) g = fired_inputs (operator_rows (oper.Lost sub) g) (lost_inputs sub g.floor) g
 operator_inputs oper.Enable g = by_free oper.Enable g free_enable
 operator_inputs oper.Online g = by_free oper.Online g (free_online g)
@@ -174,39 +198,43 @@ operator_inputs (oper.Job job word) g = by_free (oper.Job job word) g (free_comm
 operator_inputs (oper.CtlJob job command) g = by_free (oper.CtlJob job command) g (free_control job command (jobs_of (switched (oper.CtlJob job command) g)))
 
 -- where the tool has what is told of, and the rows are such
-here_inputs : (lacks starts : Bool) (xs : List Firing) → AreInputs xs → AreInputs (if lacks then [] else (if starts then xs else []))
-here_inputs true starts xs are = tt
-here_inputs false true xs are = are
-here_inputs false false xs are = tt
+here_inputs : (lacks starts : Bool) (xs ys : List Occurrence) → OfInputs xs → OfInputs ys → OfInputs (if lacks then [] else (if starts then xs else ys))
+here_inputs true starts xs ys at_x at_y = tt
+here_inputs false true xs ys at_x at_y = at_x
+here_inputs false false xs ys at_x at_y = at_y
 
 -- a carrier is removed
 abbrev is_removal : Event → Bool
 is_removal (event.Signal (signal.Removed port)) = true
 is_removal _ = false
 
-event_inputs : (before : ℕ) (g : State) (e : Event) → is_removal e ≡ false → AreInputs (rows_of_act before g e)
-event_inputs before g (event.LinkDown session cause) other = either_way AreInputs (is_session_up g session) (rows_of_session_end g) [] (session_inputs g) tt
+-- the alarm of a module is set, and then the rows that close its command fire
+closed_inputs : (row m : ℕ) (g : State) → AreInputs (closing_rows row m g.floor) → OfInputs (on_setting (module_alarm m) g ++ on_listed (closing_rows row m g.floor) (sets_alarm (module_alarm m) g))
+closed_inputs row m g are =
+    let h : State = sets_alarm (module_alarm m) g in
+    behind_inputs (on_setting (module_alarm m) g) (on_listed (closing_rows row m g.floor) h) (set_written g (module_alarm m)).rowless (fired_inputs (closing_rows row m g.floor) are h)
+
+event_inputs : (before : ℕ) (g : State) (e : Event) → is_removal e ≡ false → OfInputs (occurrences before g e)
+event_inputs before g (event.LinkDown session cause) other = either_way OfInputs (is_session_up g session) (on_session_end g) [] (session_inputs g) tt
 event_inputs before g (event.Host session arrival) other =
     let k = linked g (header_of arrival) in
     let act = link_act (header_of arrival) g.link in
-    either_way AreInputs (is_session_up g session) (rows_of_host k arrival act) [] (host_inputs k arrival act) tt
+    either_way OfInputs (is_session_up g session) (on_host k arrival act) [] (host_inputs k arrival act) tt
 event_inputs before g (event.Oper command) other = operator_inputs command g
 event_inputs before g (event.Signal (signal.Placed port name slots)) other =
     let h = with_arrival port.0 name slots g in
-    here_inputs (lacks_port port.0 g) (port_row_starts 3 port.0 g) (fired_of (at_port 4 3 port.0) h) (fired_inputs (at_port 4 3 port.0) (placing_inputs port.0) h)
+    here_inputs (lacks_port port.0 g) (port_row_starts 3 port.0 g) (on_listed (at_port 4 3 port.0) h) (on_setting (port_alarm port.0) g)
+    (fired_inputs (at_port 4 3 port.0) (placing_inputs port.0) h) (alarm_inputs (port_alarm port.0) g)
 event_inputs before g (event.Signal (signal.Removed port)) other = absurd (true≢false other)
 event_inputs before g (event.Signal (signal.Done m command)) other =
     let rows : List Firing = done_rows m.0 g.floor in
-    here_inputs (lacks_module m.0 g) (is_open command.0 (module_of m.0 g)) (fired_of rows g) (fired_inputs rows (done_inputs m.0 g.floor) g)
+    here_inputs (lacks_module m.0 g) (is_open command.0 (module_of m.0 g)) (on_listed rows g) (on_setting answer_alarm g)
+    (fired_inputs rows (done_inputs m.0 g.floor) g) (alarm_inputs answer_alarm g)
 event_inputs before g (event.Signal (signal.Failed m command)) other =
-    let rows : List Firing = closing_rows 8 m.0 g.floor in
-    let h : State = sets_alarm (module_alarm m.0) g in
-    here_inputs (lacks_module m.0 g) (is_open command.0 (module_of m.0 g)) (fired_of rows h) (fired_inputs rows (failed_inputs m.0 g.floor) h)
+    here_inputs (lacks_module m.0 g) (is_open command.0 (module_of m.0 g)) _ (on_setting answer_alarm g) (closed_inputs 8 m.0 g (failed_inputs m.0 g.floor)) (alarm_inputs answer_alarm g)
 event_inputs before g (event.Signal (signal.Down m)) other =
-    let rows : List Firing = closing_rows 9 m.0 g.floor in
-    let h : State = sets_alarm (module_alarm m.0) g in
-    here_inputs (lacks_module m.0 g) (is_up_module (module_of m.0 g)) (fired_of rows h) (fired_inputs rows (down_inputs m.0 g.floor) h)
-event_inputs before g event.Tick other = either_way AreInputs (is_due before g) (rows_of_dues (dues g) g) [] (dues_inputs (dues g) g) tt
+    here_inputs (lacks_module m.0 g) (is_up_module (module_of m.0 g)) _ [] (closed_inputs 9 m.0 g (down_inputs m.0 g.floor)) tt
+event_inputs before g event.Tick other = either_way OfInputs (is_due before g) (on_dues (dues g) g) [] (dues_inputs (dues g) g) tt
 event_inputs before g _ other = tt
 
 -- ---- an event
@@ -253,11 +281,11 @@ module _ (number : ℕ) (counted : ℕ → Bool) (g : State) (order : InOrder g.
       of false is = c
 
   -- where none of the rows that it fires disturbs
-  act_calm : (before : ℕ) (o : Outcome) (e : Event) → Quiet number counted g.floor (rows_of_act before g e) → acts before g e ≡ Some o → Is o.after
+  act_calm : (before : ℕ) (o : Outcome) (e : Event) → Quiet number counted g.floor (rows_among (occurrences before g e)) → acts before g e ≡ Some o → Is o.after
   act_calm before o (event.Signal (signal.Removed port)) quiet here =
       let there : Is (signalled (signal.Removed port) g) = either_way Is (lacks_port port.0 g) g (removed port.0 g) c (removed_calm port.0) in
       let same : answered answer.Done (signalled (signal.Removed port) g) ≡ o = cc in subst (λ (x : Outcome). Is x.after) same there
-  act_calm before o e quiet here = fires_calm number counted g.floor (rows_of_act before g e) (event_inputs before g e refl) g o.after order (act_fires before g o e here) quiet c
+  act_calm before o e quiet here = fires_calm number counted g.floor (rows_among (occurrences before g e)) (event_inputs before g e refl) g o.after order (event_occurs before g o e here).fires quiet c
 
 -- ---- an entry
 
@@ -266,6 +294,6 @@ pub entry_calm : (number : ℕ) (counted : ℕ → Bool) (g : State) (entry : En
 entry_calm number counted g entry o order e here calm =
     let acted = acted_so g entry o here in
     act_calm number counted (raised g entry.at.0) order (calm_base number counted g.floor e) g.moment o entry.event
-    (sym (ap (λ (b : Bool). list_any (disturbs number counted g.floor) (if b then [] else rows_of_act g.moment (raised g entry.at.0) entry.event)) acted.0)
+    (sym (ap (λ (b : Bool). list_any (disturbs number counted g.floor) (if b then [] else rows_among (occurrences g.moment (raised g entry.at.0) entry.event))) acted.0)
     ∙ not_true (list_any (disturbs number counted g.floor) (rows_of_input g entry)) calm)
     acted.1

@@ -34,12 +34,12 @@ use Rattle.control_job.specs.Record.{is_completed}
 use Rattle.control_job.specs.Jobs as control
 use Rattle.control_job.specs.Jobs.{JobStore, job_numbered as control_numbered, fires_at, leaves, headed}
 use Rattle.control_job.specs.declared.job.ControlJob.{ControlJob}
-use Rattle.control_job.specs.declared.record.ControlState.TheVariants.{Queued, Executing}
+use Rattle.control_job.specs.declared.record.ControlState.TheVariants.{Executing}
 use Rattle.control_job.specs.declared.record.Ending.TheVariants.{No}
 use Rattle.control_job.specs.declared.record.ControlJobRecord.{ControlJobRecord}
 use Rattle.control_job.proofs.Keeping.{leaves_number, fires_number}
 use Rattle.tool_jobs.specs.Jobs.{Jobs}
-use Rattle.tool_jobs.specs.Rows.{left_by, ended, process_starts, control_fired}
+use Rattle.tool_jobs.specs.Rows.{left_by, ended, process_starts}
 use Rattle.tool_jobs.specs.Together.{AreTogether}
 use Rattle.tool_jobs.specs.Creating.{with_process, with_control, control_fault}
 use Rattle.tool_jobs.proofs.Rows.{after_meets}

@@ -7,7 +7,7 @@ use Rattle.gem_tables.specs.declared.firing.Firing.{Firing}
 use Rattle.gem_tables.proofs.Rows.{one_of_cases}
 use Rattle.control_job.specs.Jobs.{JobStore}
 use Rattle.tool_events.specs.declared.event.Event.{Event}
-use Rattle.floor_model.specs.Floor.{ToolFloor, with_jobs, fetched}
+use Rattle.floor_model.specs.Floor.{ToolFloor, with_jobs}
 use Rattle.floor_model.specs.Signals.{closing_rows, lost_rows}
 use Rattle.floor_model.specs.Machines.{floor_starts, floor_fired, floor_least}
 use Rattle.floor_laws.specs.Rows.{listed}

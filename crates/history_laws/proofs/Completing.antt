@@ -8,7 +8,6 @@ use Rattle.gem_tables.specs.Table.{firing, is_one_of}
 use Rattle.gem_tables.specs.declared.firing.Firing.{Firing}
 use Rattle.load_port.specs.Ports.{most_ports}
 use Rattle.robot_moves.specs.declared.module.Module.{Module}
-use Rattle.robot_moves.specs.declared.module.Module.TheVariants.{Down}
 use Rattle.robot_moves.specs.Modules.{module_at, is_open as has_open}
 use Rattle.control_job.specs.Jobs.{job_numbered as control_numbered, is_open, numbers_of, AreRising, fires_at, fires_row}
 use Rattle.control_job.specs.Tables.{states_number}
@@ -30,11 +29,11 @@ use Rattle.floor_model.specs.Machines.{floor_starts, floor_fired, floor_least}
 use Rattle.floor_model.proofs.Keeping.{least_starts}
 use Rattle.place_laws.specs.Picture.{picture}
 use Rattle.floor_laws.specs.Rows.{listed}
-use Rattle.owed_laws.specs.Owed.{owed_to, commands_of}
+use Rattle.lot_laws.specs.Lot.{owed_to}
 use Rattle.queue_laws.specs.Steers.{is_executing, AreAutomatic}
 use Rattle.queue_laws.proofs.Lists.{number_is, changed_back}
 use Rattle.queue_laws.proofs.Rows.{by_executing}
-use Rattle.lot_laws.specs.Lot.{counted_of, IsMaterialHere, Executes, InOrder, IsCalmBetween}
+use Rattle.lot_laws.specs.Lot.{counted_of, total, IsMaterialHere, Executes, InOrder, IsCalmBetween}
 use Rattle.lot_laws.proofs.Beginning.{executes_then, owed_then}
 use Rattle.lot_laws.proofs.Controls.{rest_owes}
 use Rattle.lot_laws.proofs.Disturbs.{at_base, executes_at_end}
@@ -56,8 +55,7 @@ use Rattle.gem_model.proofs.Each.{each_kept}
 use Rattle.history_laws.proofs.FloorFacts.{fact_acting, fact_kept, fact_automatic, fact_creation, listed_is, done_quiet}
 use Rattle.history_laws.proofs.Past.{IsPast, past_each}
 use Rattle.gem_model.proofs.Paths.{path_keeps, path_at, along_at, control_least}
-use Rattle.history_laws.proofs.Placed.{Rested}
-use Rattle.history_laws.proofs.Ordering.{order_fact, order_first}
+use Rattle.history_laws.proofs.Ordering.{Rested, order_fact, order_first}
 use Rattle.history_laws.proofs.Carrying.{Undone, Carried, carried_changes}
 use Rattle.gem_model.proofs.Resting.{AtRest, opening-rests, settled-rests}
 use Rattle.gem_model.proofs.Settling.{settled_keeps, settled_along, settles_so}
@@ -354,10 +352,10 @@ module _ (number : ℕ) (counted : ℕ → Bool) where
 module _ (number : ℕ) where
   -- behind row 4 or 5 a Done is owed for each command of each substrate that is counted
   starts_goes : (row : ℕ) (f : ToolFloor) → InOrder f → floor_starts (firing 15 number row) f ≡ true → is_one_of (4 ∷ 5 ∷ []) row ≡ true → AreAutomatic number f.jobs → IsMaterialHere number f
-      → Owes number (counted_of number f) (commands_of (counted_of number f) (picture f)) (floor_fired (firing 15 number row) f)
+      → Owes number (counted_of number f) (total number f) (floor_fired (firing 15 number row) f)
   starts_goes row f o starts its auto here = of (control_numbered number f.jobs.control.jobs) refl starts where
     of : (c : Option ControlJob) → control_numbered number f.jobs.control.jobs ≡ c → control_starts row c (is_first_here number f) f.jobs ≡ true
-        → Owes number (counted_of number f) (commands_of (counted_of number f) (picture f)) (floor_fired (firing 15 number row) f)
+        → Owes number (counted_of number f) (total number f) (floor_fired (firing 15 number row) f)
     of None found is = absurd (true≢false (sym is))
     of (Some c) found is = (
       executes_then number row f o.sound o.together o.started o.unaligned o.in_jobs c found is its auto here,
@@ -366,10 +364,10 @@ module _ (number : ℕ) where
 
   -- where it starts, so it stands behind the entry
   pub started_stands : (g : State) (entry : Entry) (f : State) → InOrder g.floor → AtRest g → StartsAt number g entry f → AreAutomatic number f.floor.jobs → IsMaterialHere number f.floor
-      → Stands number (counted_of number f.floor) (commands_of (counted_of number f.floor) (picture f.floor)) 0 (entry_after g entry)
+      → Stands number (counted_of number f.floor) (total number f.floor) 0 (entry_after g entry)
   started_stands g entry _ order rest (by_word o here starts is) auto material =
       let counted = counted_of number g.floor in
-      let all = commands_of counted (picture g.floor) in
+      let all = total number g.floor in
       let owes : Owes number counted all o.after.floor = subst (Owes number counted all) (sym is) (starts_goes 5 g.floor order starts refl auto material) in
       subst (Stands number counted all 0) (sym (after_acting g entry o here))
       (stands_settled number counted all 0 all o.after (record { order = order_acts g entry o order rest here; goes = inl owes }) (omega arith))
@@ -377,7 +375,7 @@ module _ (number : ℕ) where
       let f : State = fire_all before o.after in
       let x = firing 15 number 4 in
       let counted = counted_of number f.floor in
-      let all = commands_of counted (picture f.floor) in
+      let all = total number f.floor in
       let acted = order_acts g entry o order rest here in
       let along = settled_along (λ (h : State). InOrder h.floor) (λ (h : State). InOrder h.floor) (λ h at. at) (fact_automatic InOrder order_fact.ready) (fact_creation InOrder) o.after acted in
       let there : InOrder f.floor = along_at (λ (h : State). InOrder h.floor) before (x ∷ behind) o.after (subst (Along (λ (h : State). InOrder h.floor) o.after) is along) in
@@ -397,7 +395,7 @@ module _ (number : ℕ) where
 completes_at : (g : State) (entry : Entry) (entries : List Entry) → InOrder g.floor → AtRest g → CompletesAtLast g entry entries
 completes_at g entry entries order rest number f some rest_of starts auto here parts calm =
     let counted = counted_of number f.floor in
-    let all = commands_of counted (picture f.floor) in
+    let all = total number f.floor in
     let came = dones (entry_after g entry) some in
     let none_before : 0 + came ≡ came = omega arith in
     subst (λ (n : ℕ). has_completed (control_of number (after_all (entry_after g entry) some)) ≡ nat_le all n) none_before

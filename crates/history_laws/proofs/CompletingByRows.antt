@@ -3,9 +3,7 @@ use Rattle.std.proofs.Common.{◌≡◌, ◌⊎◌, ◌≤◌, ℕ, ◌+◌, Boo
 use Rattle.load_port.specs.Ports.{most_ports}
 use Rattle.tool_events.specs.declared.config.Config.{Config}
 use Rattle.tool_events.specs.declared.entry.Entry.{Entry}
-use Rattle.place_laws.specs.Picture.{picture}
-use Rattle.owed_laws.specs.Owed.{commands_of}
-use Rattle.lot_laws.specs.Lot.{counted_of, InOrder, IsCalmBetween}
+use Rattle.lot_laws.specs.Lot.{counted_of, total, InOrder, IsCalmBetween}
 use Rattle.gem_model.specs.State.{State, opening}
 use Rattle.gem_model.specs.Step.{Outcome}
 use Rattle.gem_model.specs.Run.{Run, entry_after}
@@ -38,7 +36,7 @@ completes_each g [] order rest each = tt
 completes_each g (entry ∷ entries) order rest each = (
   λ number f some rest_of starts auto here parts calm.
       each.0 number f some rest_of starts auto here parts
-      (calm_run number (counted_of number f.floor) (commands_of (counted_of number f.floor) (picture f.floor)) 0 (entry_after g entry) some (started_stands number g entry f order rest starts auto here) calm),
+      (calm_run number (counted_of number f.floor) (total number f.floor) 0 (entry_after g entry) some (started_stands number g entry f order rest starts auto here) calm),
   completes_each (entry_after g entry) entries (order_entry g entry order rest) (rest_entry g entry rest) each.1,
 )
 

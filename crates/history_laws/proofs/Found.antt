@@ -1,18 +1,15 @@
 -- At rest each location is OCCUPIED exactly where a substrate is there, and Done of an open command meets no place that is taken or left.
-use Rattle.std.proofs.Common.{◌≡◌, ℕ, zero, suc, ◌+◌, ◌==◌, Bool, true, false, ◌&&◌, ◌||◌, List, [], ◌∷◌, Option, Some, None, slice_get, refl, sym, ◌∙◌, ap, subst, arith}
+use Rattle.std.proofs.Common.{◌≡◌, ℕ, zero, suc, ◌+◌, ◌==◌, Bool, true, false, ◌||◌, List, [], ◌∷◌, Option, Some, None, slice_get, refl, ap, subst, arith}
 use Rattle.std.proofs.lemmas.Bool.{or_right, and_from}
 use Rattle.std.proofs.lemmas.Bool.Decides.{Decides-eqb}
 use Rattle.gem_tables.specs.Table.{is_one_of}
-use Rattle.tool_tasks.specs.declared.task.Command.{Command}
 use Rattle.tool_tasks.specs.declared.task.Task.{Task}
 use Rattle.tool_tasks.specs.declared.task.Task.TheVariants as task
-use Rattle.robot_moves.specs.declared.module.Module.TheVariants.{Busy}
-use Rattle.robot_moves.specs.Modules.{module_at}
-use Rattle.substrate.specs.Places.{PlaceMap, is_taken_at}
+use Rattle.substrate.specs.Places.{is_taken_at}
 use Rattle.substrate.specs.declared.record.LocationRecord.{LocationRecord}
 use Rattle.substrate.specs.declared.record.Occupancy.{Occupancy}
 use Rattle.substrate.specs.declared.record.Occupancy.TheVariants.{Unoccupied, Occupied}
-use Rattle.floor_model.specs.Floor.{ToolFloor, location_at, location_numbers}
+use Rattle.floor_model.specs.Floor.{ToolFloor, location_numbers}
 use Rattle.floor_model.specs.Machines.{floor_least, location_ready}
 use Rattle.floor_model.proofs.AtRest.{none_ready}
 use Rattle.place_laws.specs.Sound.{Sound}

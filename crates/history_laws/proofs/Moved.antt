@@ -1,5 +1,5 @@
 -- How places change in a history, and how commands end: by the rows of each step.
-use Rattle.std.proofs.Common.{◌≡◌, ◌⊎◌, ◌≤◌, ◌<◌, ℕ, ◌==◌, nat_le, Bool, true, false, not, if◌then◌else◌, List, [], ◌∷◌, Option, Some, None, option_map, unwrap_or, is_some, inl, inr, refl, sym, ◌∙◌, ap, subst, arith}
+use Rattle.std.proofs.Common.{◌≡◌, ◌⊎◌, ◌≤◌, ◌<◌, ℕ, nat_le, Bool, true, false, not, if◌then◌else◌, List, [], ◌∷◌, Option, Some, None, option_map, unwrap_or, is_some, inl, inr, refl, sym, ◌∙◌, ap, subst, arith}
 use Rattle.std.proofs.lemmas.Bool.Decides.{Decides-eqb, nat_tests}
 use Rattle.gem_ids.specs.declared.numbers.CmdNo.{CmdNo}
 use Rattle.gem_ids.specs.declared.numbers.ModuleId.{ModuleId}
@@ -13,7 +13,6 @@ use Rattle.floor_model.specs.Floor.{ToolFloor}
 use Rattle.floor_model.specs.Modules.{number_named}
 use Rattle.floor_model.specs.Signals.{done_rows, closing_rows, lost_rows}
 use Rattle.tool_tasks.specs.declared.task.Command.{Command}
-use Rattle.tool_tasks.specs.declared.task.Task.TheVariants as task
 use Rattle.tool_events.specs.declared.config.Config.{Config}
 use Rattle.tool_events.specs.declared.entry.Entry.{Entry}
 use Rattle.tool_events.specs.declared.event.Event.{Event}
@@ -58,7 +57,9 @@ use Rattle.history_laws.proofs.CommonRows.{input_common}
 use Rattle.history_laws.proofs.FloorFacts.{FloorChanges, FloorFact, fact_kept, listed_is, done_quiet, closing_quiet}
 use Rattle.gem_model.proofs.Walk.{kept_step, kept_settled, kept_signalled}
 use Rattle.gem_model.proofs.Resting.{AtRest}
-use Rattle.history_laws.proofs.Placed.{Rested, sound_fact, Rests, run_rests, run_at}
+use Rattle.lot_laws.specs.Lot.{InOrder}
+use Rattle.history_laws.proofs.Ordering.{Rested, order_fact}
+use Rattle.history_laws.proofs.Placed.{Rests, run_rests, run_at}
 
 -- no place is a place
 no_place : {P : Type 0} (l : Loc) → None ≡ Some l → P
@@ -271,7 +272,7 @@ behind_is g entry o here = ap (λ (x : Option Outcome). unwrap_or (option_map (�
 since_entry : (g : State) (entry : Entry) (o : Outcome) → Rests g → entry_step g entry ≡ Some o → Since entry.event g.floor o.after.floor
 since_entry g entry o at here =
     kept_step (Acts entry.event g.floor) (λ (h : State). Since entry.event g.floor h.floor) (fact_kept (Acts entry.event g.floor) (Since entry.event g.floor) (since_fact entry.event g.floor)) g entry.at.0 entry.event o
-    (record { is = refl; rest = at.rest; same = refl }) (begins entry.event g.floor at.placed) here
+    (record { is = refl; rest = at.rest; same = refl }) (begins entry.event g.floor at.order.sound) here
 
 -- ---- a command ends
 
@@ -399,8 +400,8 @@ signal_step g at s o running here =
     ap (λ (x : Outcome). x.after) (sym same)
 
 -- a signal keeps what holds
-kept_signal : (g : State) (s : Signal) → Sound g.floor → AtRest g → Sound (signalled s g).floor
-kept_signal g s sound rest = kept_signalled Rested (λ (h : State). Sound h.floor) (fact_kept Rested Sound sound_fact).inner s g rest sound
+kept_signal : (g : State) (s : Signal) → InOrder g.floor → AtRest g → Sound (signalled s g).floor
+kept_signal g s order rest = (kept_signalled Rested (λ (h : State). InOrder h.floor) (fact_kept Rested InOrder order_fact).inner s g rest order).sound
 
 -- behind an entry at which the command of a number ends, it is over
 entry_over : (g : State) (at : ℕ) (e : Event) (o : Outcome) (number : ℕ) → Rests g → step_from g.moment (raised g at) e ≡ Some o → ended_by g e ≡ Some number → IsOver number o.after.floor
@@ -413,21 +414,21 @@ entry_over g at (event.Signal (signal.Placed port name slots)) o number rests he
 entry_over g at (event.Signal (signal.Removed port)) o number rests here ends = none_ends g.quitting number ends
 entry_over g at (event.Signal (signal.Done m k)) o number rests here ends = while_running g.quitting (if_open k.0 (module_of m.0 g)) number ends (λ running ends.
     let h = raised g at in
-    let told = if_open_tells g rests.placed number k.0 (module_of m.0 g) ends in
-    let sound = kept_signal h (signal.Done m k) rests.placed rests.rest in
+    let told = if_open_tells g rests.order.sound number k.0 (module_of m.0 g) ends in
+    let sound = kept_signal h (signal.Done m k) rests.order rests.rest in
     subst (λ (x : State). IsOver number x.floor) (sym (signal_step g at (signal.Done m k) o running here))
-    (over_settled number (signalled (signal.Done m k) h) sound (done_over h rests.placed number m k told.0 told.1)))
+    (over_settled number (signalled (signal.Done m k) h) sound (done_over h rests.order.sound number m k told.0 told.1)))
 entry_over g at (event.Signal (signal.Failed m k)) o number rests here ends = while_running g.quitting (if_open k.0 (module_of m.0 g)) number ends (λ running ends.
     let h = raised g at in
-    let told = if_open_tells g rests.placed number k.0 (module_of m.0 g) ends in
-    let sound = kept_signal h (signal.Failed m k) rests.placed rests.rest in
+    let told = if_open_tells g rests.order.sound number k.0 (module_of m.0 g) ends in
+    let sound = kept_signal h (signal.Failed m k) rests.order rests.rest in
     subst (λ (x : State). IsOver number x.floor) (sym (signal_step g at (signal.Failed m k) o running here))
-    (over_settled number (signalled (signal.Failed m k) h) sound (failed_over h rests.placed number m k told.0 told.1)))
+    (over_settled number (signalled (signal.Failed m k) h) sound (failed_over h rests.order.sound number m k told.0 told.1)))
 entry_over g at (event.Signal (signal.Down m)) o number rests here ends = while_running g.quitting (open_number (module_of m.0 g)) number ends (λ running ends.
     let h = raised g at in
-    let sound = kept_signal h (signal.Down m) rests.placed rests.rest in
+    let sound = kept_signal h (signal.Down m) rests.order rests.rest in
     subst (λ (x : State). IsOver number x.floor) (sym (signal_step g at (signal.Down m) o running here))
-    (over_settled number (signalled (signal.Down m) h) sound (down_over h rests.placed number m ends)))
+    (over_settled number (signalled (signal.Down m) h) sound (down_over h rests.order.sound number m ends)))
 entry_over g at (event.Fetch m) o number rests here ends = none_ends g.quitting number ends
 entry_over g at event.Tick o number rests here ends = none_ends g.quitting number ends
 entry_over g at event.Listen o number rests here ends = none_ends g.quitting number ends
@@ -464,7 +465,7 @@ never_ends : (number : ℕ) (g : State) (entries : List Entry) (h : State) → R
 never_ends number g [] h at over run = tt
 never_ends number g (e ∷ entries) h at over run =
     let since = since_entry g e run.0 at run.1 in (
-      over_none g e.event number at.placed over,
+      over_none g e.event number at.order.sound over,
       subst (λ (k : State). NeverEnds number k entries) (sym (behind_is g e run.0 run.1))
           (never_ends number run.0.after entries h (run_rests g (e ∷ []) run.0.after at (run.0, run.1, refl)) (over_on number g.floor run.0.after.floor since.opens over) run.2),
     )
@@ -483,7 +484,7 @@ each_moves g (e ∷ entries) h at run =
     let next = run_rests g (e ∷ []) run.0.after at (run.0, run.1, refl) in
     let since = since_entry g e run.0 at run.1 in
     subst (λ (k : State). (g.floor.places.given ≤ k.floor.places.given) × ((n : ℕ) → Moves g n e.event k) × EachMoves k entries) (sym (behind_is g e run.0 run.1))
-    (since.given, (λ n. one_moves g n e.event run.0.after at.placed next.placed since), each_moves run.0.after entries h next run.2)
+    (since.given, (λ n. one_moves g n e.event run.0.after at.order.sound next.order.sound since), each_moves run.0.after entries h next run.2)
 
 pub run-moves : (c : Config) (entries : List Entry) (h : State) → c.ports ≤ most_ports → Run (opening c) entries h → EachMoves (opening c) entries
 run-moves c entries h few run = each_moves (opening c) entries h (run_at c [] (opening c) few refl) run
@@ -496,7 +497,7 @@ pub run-given : (c : Config) (entries : List Entry) (h : State) → c.ports ≤ 
 run-given c entries h few run n less = of (place_of n h) refl where
   of : (o : Option Loc) → place_of n h ≡ o → place_of n h ≡ None
   of None is = is
-  of (Some l) is = absurd (let within = place_given h.floor.places n l (run_at c entries h few run).placed.base.places.numbered is in omega (arith, within, less))
+  of (Some l) is = absurd (let within = place_given h.floor.places n l (run_at c entries h few run).order.sound.base.places.numbered is in omega (arith, within, less))
 
 -- ---- what is Removed stays so
 

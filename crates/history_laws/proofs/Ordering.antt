@@ -3,19 +3,24 @@ use Rattle.std.proofs.Common.{◌≤◌}
 use Rattle.load_port.specs.Ports.{most_ports}
 use Rattle.control_job.specs.Jobs.{JobStore}
 use Rattle.tool_events.specs.declared.config.Config.{Config}
+use Rattle.tool_events.specs.declared.event.Event.{Event}
 use Rattle.floor_model.specs.Floor.{ToolFloor, with_jobs}
 use Rattle.floor_laws.proofs.FloorPlaces.{shop_rests}
 use Rattle.lot_laws.specs.Lot.{InOrder}
 use Rattle.lot_laws.proofs.Orderly.{done-in_order, failed-in_order, down-in_order, lost-in_order, removal-in_order, removal_left-in_order, opening-in_order, least-in_order, row-in_order, created-in_order, added-in_order, headed-in_order, fetched-in_order, cancelled-in_order, written-in_order, unbinding-in_order, placing-in_order}
-use Rattle.gem_model.specs.State.{opening}
+use Rattle.gem_model.specs.State.{State, opening}
 use Rattle.history_laws.proofs.CommonRows.{input_common}
 use Rattle.gem_model.proofs.Creating.{BecomesControl, one_added, one_headed}
 use Rattle.history_laws.proofs.FloorFacts.{FloorChanges, FloorFact}
-use Rattle.history_laws.proofs.Placed.{Rested}
+use Rattle.gem_model.proofs.Resting.{AtRest}
 
 becomes_order : (f : ToolFloor) (s : JobStore) → BecomesControl f.jobs s → InOrder f → InOrder (with_jobs (record f.jobs { control = s }) f)
 becomes_order f _ (one_added name named auto none) o = added-in_order name named auto f none o
 becomes_order f _ (one_headed name) o = headed-in_order name f o
+
+-- the floor of a state is at rest, whatever the event
+abbrev pub Rested : Event → State → Type 0
+Rested e g = AtRest g
 
 pub order_changes : FloorChanges Rested InOrder
 order_changes = record {

@@ -24,8 +24,8 @@ use Rattle.floor_laws.proofs.FloorPlaces.{one_place_sound}
 
 pub recorded-of : (c : Config) (history : List Entry) (g : State) → IsConfig c → Run (opening c) history g → Recorded c history g
 recorded-of c history g bounds run =
-    let two = bounds.ports in
-    let ports : c.ports ≤ most_ports = omega (arith, two) in
+    let within = bounds.ports in
+    let ports : c.ports ≤ most_ports = omega (arith, within) in
     let chambers = bounds.chambers in
     let few : c.chambers ≤ most_chambers = omega (arith, chambers) in
     record {

@@ -1,5 +1,5 @@
 -- While work is left where a history leads, and no module is Down, a command is open.
-use Rattle.std.proofs.Common.{◌≡◌, ◌≤◌, true, false, List, [], ◌∷◌, sym, subst}
+use Rattle.std.proofs.Common.{◌≡◌, ◌≤◌, true, false, List}
 use Rattle.load_port.specs.Ports.{most_ports}
 use Rattle.tool_events.specs.declared.config.Config.{Config}
 use Rattle.tool_events.specs.declared.entry.Entry.{Entry}
@@ -13,12 +13,7 @@ use Rattle.work_laws.proofs.Working.{open_while_work}
 use Rattle.gem_model.specs.State.{State, opening}
 use Rattle.gem_model.specs.Run.{Run}
 use Rattle.gem_model.proofs.EachFloor.{EachOnFloor, run_holds}
-use Rattle.gem_model.proofs.Resting.{AtRest, opening-rests, step-rests}
-use Rattle.gem_model.proofs.Walk.{kept_step}
-use Rattle.lot_laws.specs.Lot.{InOrder}
-use Rattle.history_laws.proofs.FloorFacts.{fact_kept}
-use Rattle.history_laws.proofs.Ordering.{order_fact, order_first}
-use Rattle.history_laws.proofs.Placed.{Rested, Rests, run_at}
+use Rattle.history_laws.proofs.Placed.{Rests, run_at}
 
 -- what the tool has for its process jobs stays
 equipped_each : EachOnFloor Equipped
@@ -35,17 +30,10 @@ equipped_each = record {
 pub run-equipped : (c : Config) (entries : List Entry) (h : State) → c.chambers ≤ most_chambers → are_usable c.chambers c.recipes ≡ true → Run (opening c) entries h → Equipped h.floor
 run-equipped c entries h chambers usable run = run_holds Equipped equipped_each (opening c) entries h (opening_equipped c.ports c.chambers c.recipes chambers usable) run
 
--- and there an open Process names each substrate that is IN PROCESS
-run_order : (g : State) (entries : List Entry) (h : State) → AtRest g → InOrder g.floor → Run g entries h → InOrder h.floor
-run_order g [] h rest order run = subst (λ (k : State). InOrder k.floor) (sym run) order
-run_order g (e ∷ entries) h rest order run =
-    run_order run.0.after entries h (step-rests g e.at.0 e.event run.0 rest run.1)
-    (kept_step Rested (λ (k : State). InOrder k.floor) (fact_kept Rested InOrder order_fact) g e.at.0 e.event run.0 rest order run.1) run.2
-
 -- so a command is open there while work is left
 pub run-works : (c : Config) (entries : List Entry) (h : State) → c.ports ≤ most_ports → c.chambers ≤ most_chambers → are_usable c.chambers c.recipes ≡ true → Run (opening c) entries h
     → is_any_down h.floor.modules ≡ false → is_work_left h.floor ≡ true → is_any_open h.floor.modules ≡ true
 run-works c entries h ports chambers usable run up work =
     let rests : Rests h = run_at c entries h ports run in
-    let order = run_order (opening c) entries h (opening-rests c) (order_first c ports) run in
-    open_while_work h.floor rests.placed order.processed (run-equipped c entries h chambers usable run) rests.rest up work
+    let order = rests.order in
+    open_while_work h.floor order.sound order.processed (run-equipped c entries h chambers usable run) rests.rest up work

@@ -1,5 +1,5 @@
 -- A control job completes exactly at its last Done (after SEMI E94; this tool's profile, tables 14 and 15, and moves).
-use Rattle.std.specs.Prelude.{◌≡◌, ◌⊎◌, ℕ, ◌+◌, ◌==◌, nat_le, Bool, true, not, if◌then◌else◌, List, [], ◌∷◌, ◌++◌, Option, Some, None}
+use Rattle.std.specs.Prelude.{◌≡◌, ◌⊎◌, ℕ, ◌+◌, nat_le, Bool, true, not, if◌then◌else◌, List, [], ◌∷◌, ◌++◌, Option, Some, None}
 use Rattle.gem_tables.specs.Table.{firing}
 use Rattle.gem_tables.specs.declared.firing.Firing.{Firing}
 use Rattle.tool_events.specs.declared.entry.Entry.{Entry}
@@ -9,11 +9,9 @@ use Rattle.tool_events.specs.declared.event.Signal.TheVariants as signal
 use Rattle.robot_moves.specs.Modules.{is_open as has_open}
 use Rattle.control_job.specs.Jobs.{job_numbered as control_numbered, is_open}
 use Rattle.control_job.specs.declared.job.ControlJob.{ControlJob}
-use Rattle.place_laws.specs.Picture.{picture}
-use Rattle.owed_laws.specs.Owed.{commands_of}
 use Rattle.floor_model.specs.Machines.{floor_starts, floor_fired}
 use Rattle.queue_laws.specs.Steers.{AreAutomatic}
-use Rattle.lot_laws.specs.Lot.{counted_of, IsMaterialHere, IsCalmBetween}
+use Rattle.lot_laws.specs.Lot.{counted_of, total, IsMaterialHere, IsCalmBetween}
 use Rattle.gem_model.specs.State.{State, raised}
 use Rattle.gem_model.specs.Fire.{fire_all}
 use Rattle.gem_model.specs.Settle.{settling}
@@ -58,13 +56,13 @@ dones g (entry ∷ entries) = (if g.quitting then 0 else done_of g entry.event) 
 
 -- Where a control job starts in an entry, each process job that is left in it starting by itself and having its material here, and no
 -- entry behind disturbs it, it has completed behind so many entries exactly where as many Dones ended commands in them as it takes
--- commands for the counted substrates: eight for each.
+-- commands for the counted substrates: eight for each, since the first of these process jobs that names its slot has one step.
 abbrev pub CompletesAtLast : State → Entry → List Entry → Type 0
 CompletesAtLast g entry entries =
     (number : ℕ) (f : State) (some rest : List Entry) → StartsAt number g entry f → AreAutomatic number f.floor.jobs → IsMaterialHere number f.floor
     → entries ≡ some ++ rest → IsCalmRun number (counted_of number f.floor) (entry_after g entry) some
     → has_completed (control_of number (after_all (entry_after g entry) some))
-    ≡ nat_le (commands_of (counted_of number f.floor) (picture f.floor)) (dones (entry_after g entry) some)
+    ≡ nat_le (total number f.floor) (dones (entry_after g entry) some)
 
 -- so it is at each entry of a history
 abbrev pub EachCompletes : State → List Entry → Type 0

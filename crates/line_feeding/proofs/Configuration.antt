@@ -6,8 +6,8 @@ use Rattle.tool_events.specs.declared.config.Config.{Config}
 use Rattle.configuration.specs.declared.fault.ConfigFault.{ConfigFault}
 use Rattle.configuration.specs.declared.fault.ConfigFault.TheVariants as fault
 use Rattle.configuration.specs.Reading.{configuration_bytes, Says, Reads}
-use Rattle.line_feeding.specs.declared.ended.Cause.{Cause}
-use Rattle.line_feeding.specs.declared.ended.Cause.TheVariants as cause
+use Rattle.run_causes.specs.declared.cause.Cause.{Cause}
+use Rattle.run_causes.specs.declared.cause.Cause.TheVariants as cause
 use Rattle.line_feeding.specs.CauseOf.{cause_for, Unsaid, Refuses}
 use Rattle.line_feeding.specs.Fed.{SourceView, IsRead, IsRefused}
 

@@ -6,8 +6,8 @@ use Rattle.gem_model.specs.Sizes.{bytes_of}
 use Rattle.configuration.specs.declared.fault.ConfigFault.{ConfigFault}
 use Rattle.configuration.specs.declared.fault.ConfigFault.TheVariants as fault
 use Rattle.configuration.specs.Reading.{Breaks}
-use Rattle.line_feeding.specs.declared.ended.Cause.{Cause}
-use Rattle.line_feeding.specs.declared.ended.Cause.TheVariants as cause
+use Rattle.run_causes.specs.declared.cause.Cause.{Cause}
+use Rattle.run_causes.specs.declared.cause.Cause.TheVariants as cause
 use Rattle.line_feeding.specs.declared.halt.Halt.TheVariants as halt
 use Rattle.line_feeding.specs.declared.halt.InputEnd.{InputEnd}
 use Rattle.line_feeding.specs.declared.halt.InputEnd.TheVariants as input

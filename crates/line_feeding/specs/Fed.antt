@@ -14,8 +14,8 @@ use Rattle.text_lines.specs.Lines.{whole_lines}
 use Rattle.line_grammar.specs.Texts.{NumberEnded}
 use Rattle.gem_model.specs.Feed.{AllRead, OutsideGrammar, QuitAt, feed_entries}
 use Rattle.gem_model.specs.Printed.{printed}
-use Rattle.line_feeding.specs.declared.ended.Cause.{Cause}
-use Rattle.line_feeding.specs.declared.ended.Cause.TheVariants as cause
+use Rattle.run_causes.specs.declared.cause.Cause.{Cause}
+use Rattle.run_causes.specs.declared.cause.Cause.TheVariants as cause
 use Rattle.line_feeding.specs.declared.ended.SessionNote.{SessionNote}
 use Rattle.driving.specs.Limits.{IsFullAt}
 use Rattle.line_feeding.specs.Limits.{MeetsBound}

@@ -5,7 +5,6 @@ pub mod Reads
 pub mod Quitting
 pub mod Cuts
 pub mod Stopping
-pub mod Status
 pub mod Notes
 pub mod Noted
 pub mod Fed

@@ -5,10 +5,10 @@ ghost use Rattle.line_feeding.specs.Fed.{looked, IsRead};
 ghost use Rattle.configuration.specs.Reading.{Says};
 ghost use Rattle.line_feeding.specs.CauseOf.{Refuses, Unsaid, cause_for};
 
-use crate::ended::Cause;
 use crate::read::{TextFault, read_text};
 use configuration::{CONFIGURATION_BYTES, ConfigFault, read_config};
 use outside::Source;
+use run_causes::Cause;
 use std::alloc::Global;
 use tool_events::Config;
 

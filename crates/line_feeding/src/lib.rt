@@ -16,8 +16,9 @@ mod words;
 
 pub use configured::read_configuration;
 pub use cuts::{cut_bytes, ends_run, quit_behind};
-pub use ended::{Cause, Ended, Notes, Panels, SessionNote};
+pub use ended::{Ended, Notes, Panels, SessionNote};
 pub use halt::{Halt, InputEnd, InputRead};
 pub use print::outcome_text;
 pub use read::{TextFault, read_text};
+pub use run_causes::Cause;
 pub use words::{FeedWords, check_serve_words, check_words};

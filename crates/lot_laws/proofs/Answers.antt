@@ -25,20 +25,21 @@ use Rattle.floor_moves.specs.Floor as law
 use Rattle.floor_moves.specs.Floor.{Loc, Command, aligner, pick, place, align, busy, idle, is_done}
 use Rattle.floor_moves.specs.Effects.{moved, aligned as aligned_by_numbers, turned, worked}
 use Rattle.floor_moves.specs.Agree.{Agree}
-use Rattle.floor_moves.specs.Valid.{IsUnnamed, Valid}
+use Rattle.floor_moves.specs.Valid.{IsUnnamed, PickStands, Valid}
 use Rattle.floor_moves.proofs.Facts.{outside_not_done, picked_not_done}
 use Rattle.floor_moves.proofs.Done.{done_align-keeps, finished-keeps}
 use Rattle.floor_moves.proofs.Moving.{idle_not_busy}
 use Rattle.place_laws.specs.Picture.{picture, loc_of, numbered, task_of, of_one}
 use Rattle.place_laws.specs.Sound.{Sound}
+use Rattle.place_laws.proofs.OneStep.{through_finished}
 use Rattle.picture_laws.proofs.Columns.{says_same}
 use Rattle.picture_laws.proofs.Closing.{modules_behind, aligning_agrees}
 use Rattle.floor_laws.proofs.EndNames.{named_place, number_there, named_kept}
 use Rattle.floor_laws.proofs.EndOpen.{command_of, busy_at}
-use Rattle.owed_laws.specs.Owed.{owed_to}
-use Rattle.owed_laws.specs.Undisturbed.{Undisturbed, SubstratesStand}
-use Rattle.owed_laws.proofs.Columns.{OneLess}
-use Rattle.owed_laws.proofs.Agreeing.{agree-undisturbed, agree-owed}
+use Rattle.lot_laws.specs.Lot.{one_step, owed_to}
+use Rattle.owed_laws.specs.Undisturbed.{Undisturbed, SubstratesStand, OneLess}
+use Rattle.owed_laws.proofs.Agreeing.{agree-undisturbed}
+use Rattle.lot_laws.proofs.Owing.{agree-owed}
 use Rattle.owed_laws.proofs.Decreasing.{done_pick-falls, done_place-falls, done_align-falls, finished-falls}
 use Rattle.lot_laws.specs.Lot.{IsInJob, Waits, Executes}
 use Rattle.lot_laws.proofs.Standing.{on_base, undisturbed}
@@ -60,10 +61,10 @@ module _ (number : ℕ) (counted : ℕ → Bool) (f : ToolFloor) (e : Executes n
     all = e.all;
     substrates = stand;
   } where
-    by : (n : ℕ) (x : Substrate) → (is_done n (picture f) ≡ true) ⊎ (IsInJob x f ⊎ Waits number x f) → (is_done n (picture (record f { places = p; modules = ms })) ≡ true) ⊎ (IsInJob x (record f { places = p; modules = ms }) ⊎ Waits number x (record f { places = p; modules = ms }))
+    by : (n : ℕ) (x : Substrate) → (is_done n (picture f) ≡ true) ⊎ (IsInJob number x f ⊎ Waits number x f) → (is_done n (picture (record f { places = p; modules = ms })) ≡ true) ⊎ (IsInJob number x (record f { places = p; modules = ms }) ⊎ Waits number x (record f { places = p; modules = ms }))
     by n x (inl is) = inl (done n is)
     by n x (inr (inl its)) = inr (inl its)
-    by n x (inr (inr w)) = inr (inr (record { at = w.at; job = w.job; kept = w.kept; left = w.left; queued = w.queued; joins = w.joins }))
+    by n x (inr (inr w)) = inr (inr (record { at = w.at; job = w.job; kept = w.kept; left = w.left; first = w.first; queued = w.queued; joins = w.joins }))
 
 module _ (number : ℕ) (counted : ℕ → Bool) (f : ToolFloor) (sound : Sound f) (e : Executes number counted f) (m : ℕ) (c : ToolCommand) (fetched : Bool) (here : module_at m f.modules ≡ Some (Busy c fetched)) where
   -- it executes on, and one less is owed
@@ -78,7 +79,7 @@ module _ (number : ℕ) (counted : ℕ → Bool) (f : ToolFloor) (sound : Sound 
 
   -- ---- Done of Pick and of Place
 
-  transfer-falls : (sub : List ℕ) (from to : LocId) → Written f sound m c fetched here sub from to → is_done (numbered sub f.places) (picture f) ≡ false → OneLess counted (picture f) (moved (numbered sub f.places) (loc_of to) m (picture f)) → Falls (floor_fired (firing 16 m 5) f)
+  transfer-falls : (sub : List ℕ) (from to : LocId) → Written f sound m c fetched here sub from to → is_done (numbered sub f.places) (picture f) ≡ false → OneLess (one_step (picture f)) counted (picture f) (moved (numbered sub f.places) (loc_of to) m (picture f)) → Falls (floor_fired (firing 16 m 5) f)
   transfer-falls sub from to w left less = subst Falls (sym w.fires) (
     places-executes number counted f e (record f.places { held = moved_to sub to f.places.held }) (change_module m (module_behind 5) f.modules) done (agree-undisturbed _ _ w.agrees counted w.valid less.0).substrates,
     ap (λ (k : ℕ). k + 1) (agree-owed _ _ w.agrees counted) ∙ less.1,
@@ -93,21 +94,28 @@ module _ (number : ℕ) (counted : ℕ → Bool) (f : ToolFloor) (sound : Sound 
       let t : task_of c.task f.places ≡ pick (numbered sub f.places) (loc_of from) = ap (λ (x : ToolTask). task_of x f.places) q in
       let s = sound.valid.commands.picks m (numbered sub f.places) (loc_of from) (command_of c f.places) is_busy t in
       transfer-falls sub from Arm (pick_written f sound m c fetched here sub from q) (picked_not_done (picture f) m (numbered sub f.places) (loc_of from) s)
-      (done_pick-falls counted (picture f) sound.valid u m (numbered sub f.places) (loc_of from) (command_of c f.places) is_busy t)
+      (done_pick-falls (one_step (picture f)) counted (picture f) sound.valid u m (numbered sub f.places) (loc_of from) (command_of c f.places) is_busy t (from_chamber s))
+    where
+      -- from a chamber it goes finished
+      from_chamber : PickStands m (numbered sub f.places) (loc_of from) (picture f) → (d : ℕ) → loc_of from ≡ law.chamber d → law.is_finished ((picture f).processing (numbered sub f.places)) ≡ false
+          → is_one_of (picture f).chambers d ≡ false
+      from_chamber s d q unfinished =
+          let here = s.stands ∙ ap (λ (l : law.Loc). Some l) q in
+          absurd (true≢false (sym (through_finished f sound.valid (numbered sub f.places) d here (s.from_chamber d q)) ∙ unfinished))
 
   pub place-falls : (sub : List ℕ) (to : LocId) → c.task ≡ task.Place sub to → Falls (floor_fired (firing 16 m 5) f)
   place-falls sub to q =
       let t : task_of c.task f.places ≡ place (numbered sub f.places) (loc_of to) = ap (λ (x : ToolTask). task_of x f.places) q in
       let s = sound.valid.commands.places m (numbered sub f.places) (loc_of to) (command_of c f.places) is_busy t in
       transfer-falls sub Arm to (place_written f sound m c fetched here sub to q) (outside_not_done (picture f) (numbered sub f.places) (ap law.is_outside s.stands))
-      (done_place-falls counted (picture f) sound.valid u m (numbered sub f.places) (loc_of to) (command_of c f.places) is_busy t)
+      (done_place-falls (one_step (picture f)) counted (picture f) sound.valid u m (numbered sub f.places) (loc_of to) (command_of c f.places) is_busy t (λ d q unfinished. (s.to_chamber d q).0))
 
   -- ---- Done of Align
 
-  aligned-executes : (n : ℕ) (s : Substrate) → substrate_numbered n f.substrates ≡ Some s → Valid (aligned_by_numbers n m (picture f)) → OneLess counted (picture f) (aligned_by_numbers n m (picture f))
+  aligned-executes : (n : ℕ) (s : Substrate) → substrate_numbered n f.substrates ≡ Some s → Valid (aligned_by_numbers n m (picture f)) → OneLess (one_step (picture f)) counted (picture f) (aligned_by_numbers n m (picture f))
       → Falls (with_module m (module_behind 6) (record f { substrates = change_numbered n aligned f.substrates }))
   aligned-executes n s found valid less = (
-    change-executes number counted f e n aligned (λ x. refl) (λ x. refl) (change_module m (module_behind 6) f.modules) agrees.jobs.is_member (λ k kept is. done k ∙ is) (λ x there w. w.joins) (λ j x can. can) (agree-undisturbed _ _ agrees counted valid less.0).substrates,
+    change-executes number counted f e n aligned (λ x. refl) (λ x. refl) (λ x. (refl, refl)) (change_module m (module_behind 6) f.modules) agrees.jobs.is_member (λ k kept is. done k ∙ is) (λ x there w. w.joins) (λ j x can. can) (agree-undisturbed _ _ agrees counted valid less.0).substrates,
     ap (λ (k : ℕ). k + 1) (agree-owed _ _ agrees counted) ∙ less.1,
   ) where
     agrees : Agree (aligned_by_numbers n m (picture f)) (picture (with_module m (module_behind 6) (record f { substrates = change_numbered n aligned f.substrates })))
@@ -124,7 +132,7 @@ module _ (number : ℕ) (counted : ℕ → Bool) (f : ToolFloor) (sound : Sound 
       let kept = named_kept f sound.base sub at.0 at.1 in
       let its = number_there f.places sub at.0 at.1 in
       let valid : Valid (aligned_by_numbers at.0.number m (picture f)) = subst (λ (n : ℕ). Valid (aligned_by_numbers n m (picture f))) its (done_align-keeps (picture f) m (numbered sub f.places) (command_of c f.places) is_busy t sound.valid) in
-      let less : OneLess counted (picture f) (aligned_by_numbers at.0.number m (picture f)) = subst (λ (n : ℕ). OneLess counted (picture f) (aligned_by_numbers n m (picture f))) its (done_align-falls counted (picture f) sound.valid u m (numbered sub f.places) (command_of c f.places) is_busy t) in
+      let less : OneLess (one_step (picture f)) counted (picture f) (aligned_by_numbers at.0.number m (picture f)) = subst (λ (n : ℕ). OneLess (one_step (picture f)) counted (picture f) (aligned_by_numbers n m (picture f))) its (done_align-falls (one_step (picture f)) counted (picture f) sound.valid u m (numbered sub f.places) (command_of c f.places) is_busy t) in
       subst (λ (o : Option ToolModule). Falls (with_module m (module_behind 6) (aligned_by (open_task o) f))) (sym here)
       (subst (λ (x : ToolTask). Falls (with_module m (module_behind 6) (aligned_by (Some x) f))) (sym q)
       (subst (λ (o : Option Registered). Falls (with_module m (module_behind 6) (record f { substrates = aligned_numbered (option_map (λ (r : Registered). r.number) o) f.substrates }))) (sym at.1)
@@ -151,7 +159,6 @@ module _ (number : ℕ) (counted : ℕ → Bool) (f : ToolFloor) (sound : Sound 
     places-executes number counted f e f.places (change_module m (module_behind 7) f.modules) (λ k is. is) (record {
       here = e.substrates.here;
       finished = e.substrates.finished;
-      in_chamber = e.substrates.in_chamber;
       in_slot = e.substrates.in_slot;
       to_chamber = λ k n d x g t. was k n d x (sym (same_equipment k) ∙ g) t;
       not_given = e.substrates.not_given;
@@ -185,7 +192,7 @@ module _ (number : ℕ) (counted : ℕ → Bool) (f : ToolFloor) (e : Executes n
       row_3 (Some x) q s =
           let is = is_running x.states.processing (and_parts (is_among processing_number (processing.InProcess ∷ []) x.states.processing) true s).0 in
           let goes : state_behind 3 x ≡ 2 = ap (λ (p : Processing). processing_number (after processing_number processing_table 3 p)) is in
-          let less : OneLess counted (picture f) (worked n (state_behind 3 x) (picture f)) = subst (λ (k : ℕ). OneLess counted (picture f) (worked n k (picture f))) (sym goes) (finished-falls counted (picture f) n d 2 unnamed sound.valid u at (running x q is) refl) in
+          let less : OneLess (one_step (picture f)) counted (picture f) (worked n (state_behind 3 x) (picture f)) = subst (λ (k : ℕ). OneLess (one_step (picture f)) counted (picture f) (worked n k (picture f))) (sym goes) (finished-falls (one_step (picture f)) counted (picture f) n d 2 unnamed sound.valid u at (running x q is) (sound.valid.places.chambers n d at) refl refl) in
           let valid = finished-keeps (picture f) n (state_behind 3 x) (ap law.is_finished goes) unnamed sound.valid in
           (worked-executes number counted f sound.base e n 3 x q member (running x q is) valid less.0, ap (λ (k : ℕ). k + 1) (worked_owed number counted f sound.base e n 3 x q member (running x q is) valid less.0) ∙ less.1)
 
@@ -194,6 +201,6 @@ module _ (number : ℕ) (counted : ℕ → Bool) (f : ToolFloor) (e : Executes n
       row_4 (Some x) q s =
           let is = is_running x.states.processing (and_parts (is_among processing_number (processing.InProcess ∷ []) x.states.processing) true s).0 in
           let goes : state_behind 4 x ≡ 3 = ap (λ (p : Processing). processing_number (after processing_number processing_table 4 p)) is in
-          let less : OneLess counted (picture f) (worked n (state_behind 4 x) (picture f)) = subst (λ (k : ℕ). OneLess counted (picture f) (worked n k (picture f))) (sym goes) (finished-falls counted (picture f) n d 3 unnamed sound.valid u at (running x q is) refl) in
+          let less : OneLess (one_step (picture f)) counted (picture f) (worked n (state_behind 4 x) (picture f)) = subst (λ (k : ℕ). OneLess (one_step (picture f)) counted (picture f) (worked n k (picture f))) (sym goes) (finished-falls (one_step (picture f)) counted (picture f) n d 3 unnamed sound.valid u at (running x q is) (sound.valid.places.chambers n d at) refl refl) in
           let valid = finished-keeps (picture f) n (state_behind 4 x) (ap law.is_finished goes) unnamed sound.valid in
           (worked-executes number counted f sound.base e n 4 x q member (running x q is) valid less.0, ap (λ (k : ℕ). k + 1) (worked_owed number counted f sound.base e n 4 x q member (running x q is) valid less.0) ∙ less.1)

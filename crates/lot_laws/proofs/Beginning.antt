@@ -1,19 +1,22 @@
 -- As a control job starts with its material in place, it executes undisturbed, and a Done is owed for each command of each counted substrate.
-use Rattle.std.proofs.Common.{◌≡◌, ◌≤◌, ℕ, ◌==◌, Bool, true, false, ◌&&◌, List, [], ◌∷◌, Option, Some, None, refl, sym, ◌∙◌, ap, subst, inr, arith}
-use Rattle.std.specs.List.{list_any}
+use Rattle.std.proofs.Common.{◌≡◌, ◌≤◌, ℕ, ◌==◌, Bool, true, false, if◌then◌else◌, not, ◌&&◌, List, [], ◌∷◌, find, Option, Some, None, is_some, refl, sym, ◌∙◌, ap, subst, inr, arith}
 use Rattle.std.proofs.lemmas.Bool.{true≢false, and_parts}
 use Rattle.gem_tables.specs.Table.{is_one_of, firing}
-use Rattle.gem_tables.proofs.Rows.{both}
+use Rattle.gem_tables.proofs.Rows.{both, one_of_cases}
 use Rattle.carrier.specs.declared.carrier.Carrier.{Carrier}
 use Rattle.carrier.specs.Tables.{access_number}
 use Rattle.substrate.specs.Tables.{processing_number}
 use Rattle.substrate.specs.Record.{is_at_source, is_needing}
 use Rattle.substrate.specs.declared.record.Processing.{Processing}
 use Rattle.substrate.specs.declared.record.Processing.TheVariants as processing
-use Rattle.process_job.specs.Jobs.{job_numbered}
+use Rattle.records.proofs.Texts.{same_name}
+use Rattle.process_job.specs.Jobs.{has_name, job_named, job_numbered}
 use Rattle.process_job.specs.declared.job.ProcessJob.{ProcessJob}
-use Rattle.control_job.specs.Jobs.{job_numbered as control_numbered}
+use Rattle.control_job.specs.Names.{is_in}
+use Rattle.control_job.specs.Jobs.{job_numbered as control_numbered, is_open, fires_row, fires_at, left_behind}
+use Rattle.control_job.proofs.Keeping.{fires_number}
 use Rattle.control_job.specs.declared.job.ControlJob.{ControlJob}
+use Rattle.tool_jobs.specs.Wants.{control_wants}
 use Rattle.tool_jobs.specs.Rows.{control_starts, control_fired}
 use Rattle.tool_jobs.specs.Together.{AreTogether}
 use Rattle.floor_model.specs.declared.tracked.Substrate.{Substrate}
@@ -24,13 +27,19 @@ use Rattle.place_laws.specs.Picture.{picture, of_one}
 use Rattle.place_laws.specs.Sound.{Sound}
 use Rattle.place_laws.proofs.Holding.{found_among, rising_given}
 use Rattle.floor_laws.proofs.JobSays.{member_tells, any_found}
-use Rattle.owed_laws.specs.Owed.{owed_to, commands_of}
+use Rattle.owed_laws.specs.Owed.{commands_for}
+use Rattle.owed_laws.proofs.Totals.{sum_same}
+use Rattle.lot_laws.specs.Lot.{one_step, owed_to}
 use Rattle.owed_laws.specs.Undisturbed.{AreUnaligned, Begins}
 use Rattle.owed_laws.proofs.Beginning.{begins_undisturbed, begins_owed}
 use Rattle.queue_laws.specs.Started.{is_queued, is_left_in, AreStarted}
 use Rattle.queue_laws.specs.Steers.{AreAutomatic}
-use Rattle.queue_laws.proofs.Steering.{started_queued, begin-steers, started_left, left_started}
-use Rattle.lot_laws.specs.Lot.{is_in_named_slot, wants_slot, is_wanted, counted_of, IsMaterialHere, AreInKeptJobs, Waits, Executes}
+use Rattle.queue_laws.proofs.Lists.{find_meets, number_is, changed_on}
+use Rattle.queue_laws.proofs.Rows.{starting}
+use Rattle.queue_laws.proofs.Owners.{is_same}
+use Rattle.queue_laws.proofs.Steering.{left_owned, owned_left, started_queued, begin-steers, started_left, left_started}
+use Rattle.lot_laws.specs.Lot.{is_in_named_slot, is_in_found_slot, names_slot, names_left, first_naming, steps_found, steps_named, is_wanted, counted_of, steps_of, total, IsMaterialHere, AreInKeptJobs, Waits, Executes}
+use Rattle.lot_laws.proofs.First.{find_in, some_first, by_name as by_its_name}
 use Rattle.lot_laws.proofs.Naming.{any_numbered, slot_names_carrier, slot_in_use}
 use Rattle.lot_laws.proofs.Standing.{on_base, not_so, Joins, joins_tell, member_begun, carried, named_by}
 
@@ -63,19 +72,39 @@ module _ (number row : ℕ) (f : ToolFloor) (h : Sound f) (t : AreTogether f.job
       needs : is_needing one.states.processing ≡ true
       job : ProcessJob
       its : job_numbered job.number f.jobs.process.kept ≡ Some job
+      first : first_naming number f one ≡ Some job.id
       left : is_left_in number job.id f.jobs ≡ true
       named : is_in_named_slot job f.shop one ≡ true
+
+    -- it isn't COMPLETED
+    open_now : is_open c ≡ true
+    open_now = ap not (starting (λ want. control_wants want c (is_first_here number f) f.jobs.control) row c.states its_row starts).open_now
 
     wanted : (n : ℕ) → counted n ≡ true → Wanted n
     wanted n e = of (substrate_numbered n f.substrates) refl e where
       of : (o : Option Substrate) → substrate_numbered n f.substrates ≡ o → of_one false (is_wanted number f) o ≡ true → Wanted n
       of None q g = absurd (true≢false (sym g))
       of (Some x) q g =
-          let outer = and_parts (is_at_source x.states.transport && is_needing x.states.processing) (list_any (wants_slot number f x) f.jobs.process.kept) g in
-          let first = and_parts (is_at_source x.states.transport) (is_needing x.states.processing) outer.0 in
-          let j = any_numbered (wants_slot number f x) 0 f.jobs.process.given f.jobs.process.kept h.base.jobs.numbered outer.1 in
-          let last = and_parts (is_left_in number j.0.id f.jobs) (is_in_named_slot j.0 f.shop x) j.2 in
-          record { one = x; found = q; source = first.0; needs = first.1; job = j.0; its = j.1; left = last.0; named = last.1 }
+          let outer = and_parts (is_at_source x.states.transport && is_needing x.states.processing) (is_some (first_naming number f x)) g in
+          let states = and_parts (is_at_source x.states.transport) (is_needing x.states.processing) outer.0 in
+          by_name (first_naming number f x) refl outer.1 states.0 states.1
+        where
+          -- the job of the name that was found
+          by_job : (name : List ℕ) → first_naming number f x ≡ Some name → is_at_source x.states.transport ≡ true → is_needing x.states.processing ≡ true → (j : Option ProcessJob) → job_named name f.jobs.process.kept ≡ j → is_in_found_slot j f.shop x ≡ true → Wanted n
+          by_job name r source needs None u p = absurd (true≢false (sym p))
+          by_job name r source needs (Some j) u p =
+              let both_so = both (has_name name j) (is_in_named_slot j f.shop x) (find_meets (has_name name) f.jobs.process.kept j u) p in
+              let w = any_numbered (λ i. has_name name i && is_in_named_slot i f.shop x) 0 f.jobs.process.given f.jobs.process.kept h.base.jobs.numbered (any_found (has_name name) (λ i. has_name name i && is_in_named_slot i f.shop x) f.jobs.process.kept j u both_so) in
+              let parts = and_parts (has_name name w.0) (is_in_named_slot w.0 f.shop x) w.2 in
+              let same : w.0.id ≡ name = same_name w.0.id name parts.0 in
+              let among : is_in name c.left ≡ true = subst (λ (k : Option ControlJob). is_in name (names_left k) ≡ true) at (find_in (names_slot f x) (names_left (control_numbered number f.jobs.control.jobs)) name r) in
+              let left : is_left_in number w.0.id f.jobs ≡ true = owned_left number w.0.id f.jobs c at (both (is_open c) (is_in w.0.id c.left) open_now (ap (λ (m : List ℕ). is_in m c.left) same ∙ among)) in
+              record { one = x; found = q; source = source; needs = needs; job = w.0; its = w.1; first = r ∙ ap (λ (m : List ℕ). Some m) (sym same); left = left; named = parts.1 }
+
+          by_name : (k : Option (List ℕ)) → first_naming number f x ≡ k → is_some k ≡ true → is_at_source x.states.transport ≡ true → is_needing x.states.processing ≡ true → Wanted n
+          by_name None r some source needs = absurd (true≢false (sym some))
+          by_name (Some name) r some source needs =
+              by_job name r source needs (job_named name f.jobs.process.kept) refl (find_meets (names_slot f x) (names_left (control_numbered number f.jobs.control.jobs)) name r)
 
     pub begins : Begins counted (picture f)
     begins = record {
@@ -107,6 +136,16 @@ module _ (number row : ℕ) (f : ToolFloor) (h : Sound f) (t : AreTogether f.job
     left_then : (job : List ℕ) → is_left_in number job f.jobs ≡ true → is_left_in number job behind.jobs ≡ true
     left_then job left = left_started number f.jobs t s row (is_first_here number f) c at starts its_row job left
 
+    -- the same names are left in it, in their order
+    names_then : names_left (control_numbered number behind.jobs.control.jobs) ≡ names_left (control_numbered number f.jobs.control.jobs)
+    names_then =
+        ap names_left (changed_on (fires_at number row) number f.jobs.control.jobs c (fires_number number row) at ∙ ap (λ (b : Bool). Some (if b then fires_row row c else c)) (is_same c.number number (number_is number f.jobs.control.jobs c at)))
+        ∙ one_of_cases (λ (r : ℕ). left_behind r c ≡ c.left) (4 ∷ 5 ∷ []) row (refl, (refl, tt)) its_row
+        ∙ sym (ap names_left at)
+
+    first_then : (x : Substrate) → first_naming number behind x ≡ first_naming number f x
+    first_then x = ap (find (names_slot f x)) names_then
+
     left_now : (job : List ℕ) → is_left_in number job behind.jobs ≡ true → is_left_in number job f.jobs ≡ true
     left_now job left = started_left number f.jobs t s row (is_first_here number f) c at starts its_row job left
 
@@ -125,6 +164,7 @@ module _ (number row : ℕ) (f : ToolFloor) (h : Sound f) (t : AreTogether f.job
         job = w.job;
         kept = w.its;
         left = left_then w.job.id w.left;
+        first = first_then x ∙ ap (first_naming number f) (sym same) ∙ w.first;
         queued = queued w.job.number w.job w.its;
         joins = subst (λ (y : Substrate). can_join w.job f.shop y ≡ true) same
             (both (is_at_source w.one.states.transport && is_needing w.one.states.processing) ((w.one.job == 0) && is_in_named_slot w.job f.shop w.one)
@@ -143,9 +183,24 @@ module _ (number row : ℕ) (f : ToolFloor) (h : Sound f) (t : AreTogether f.job
       takes : (n k : ℕ) (x : Substrate) (j : ProcessJob) → substrate_numbered n f.substrates ≡ Some x → job_numbered k f.jobs.process.kept ≡ Some j → is_left_in number j.id f.jobs ≡ true → Joins j f x → counted n ≡ true
       takes n k x j found its left joins =
           ap (of_one false (is_wanted number f)) found
-          ∙ both (is_at_source x.states.transport && is_needing x.states.processing) (list_any (wants_slot number f x) f.jobs.process.kept)
+          ∙ both (is_at_source x.states.transport && is_needing x.states.processing) (is_some (first_naming number f x))
           (both (is_at_source x.states.transport) (is_needing x.states.processing) joins.source joins.needs)
-          (any_found _ (wants_slot number f x) f.jobs.process.kept j its (both (is_left_in number j.id f.jobs) (is_in_named_slot j f.shop x) left joins.named))
+          (some_first number f x k j t.process.apart its among joins.named)
+        where
+          among : is_in j.id (names_left (control_numbered number f.jobs.control.jobs)) ≡ true
+          among = ap (λ (d : Option ControlJob). is_in j.id (names_left d)) at ∙ (and_parts (is_open c) (is_in j.id c.left) (left_owned number j.id f.jobs c at left)).1
 
-    pub owed_then : owed_to counted (picture (floor_fired (firing 15 number row) f)) ≡ commands_of counted (picture f)
-    owed_then = begins_owed counted (picture f) h.valid begins
+    -- ---- what is owed
+
+    -- each counted one takes the steps of the first job that names its slot
+    takes_one : (n : ℕ) → counted n ≡ true → steps_of number f n ≡ 1
+    takes_one n is =
+        let w = wanted n is in
+        ap (of_one 0 (λ (x : Substrate). steps_named f.jobs.process (first_naming number f x))) w.found
+        ∙ ap (steps_named f.jobs.process) w.first
+        ∙ ap (steps_found f.jobs.process) (by_its_name w.job.number f.jobs.process.kept w.job t.process.apart w.its)
+
+    pub owed_then : owed_to counted (picture (floor_fired (firing 15 number row) f)) ≡ total number f
+    owed_then =
+        begins_owed counted (picture f) h.valid begins (one_step (picture f))
+        ∙ sum_same counted (λ (n : ℕ). commands_for 1) (λ (n : ℕ). commands_for (steps_of number f n)) (picture f).substrates (λ n kept is. ap commands_for (sym (takes_one n is)))

@@ -36,10 +36,11 @@ use Rattle.floor_moves.specs.Floor.{Loc, is_done}
 use Rattle.place_laws.specs.Picture.{picture}
 use Rattle.place_laws.specs.Sound.{Sound}
 use Rattle.place_laws.proofs.Holding.{one_found, found_among}
+use Rattle.place_laws.proofs.OneStep.{one_left}
 use Rattle.floor_laws.proofs.JobSight.{none_some, in_slot_from, removed_from}
 use Rattle.floor_laws.proofs.JobWork.{finished_same}
 use Rattle.floor_laws.proofs.JobSays.{said_there}
-use Rattle.owed_laws.specs.Owed.{owed_to}
+use Rattle.lot_laws.specs.Lot.{one_step, owed_to}
 use Rattle.owed_laws.proofs.Beginning.{nothing_left, each_done}
 use Rattle.queue_laws.specs.Started.{is_left_in, AreStarted}
 use Rattle.queue_laws.specs.Steers.{has_none_left, goes_on, disturbs_control, is_completion}
@@ -49,6 +50,8 @@ use Rattle.queue_laws.proofs.Steering.{Found, found_executing, left_owned, owned
 use Rattle.lot_laws.specs.Lot.{IsInJob, Waits, Executes}
 use Rattle.lot_laws.proofs.Naming.{any_numbered}
 use Rattle.lot_laws.proofs.Standing.{on_base, member_left}
+use Rattle.lot_laws.proofs.AtWork.{at_work_of}
+use Rattle.lot_laws.proofs.Steering.{row_names}
 use Rattle.lot_laws.proofs.Going.{controls-execute}
 
 -- ---- at rest
@@ -115,7 +118,8 @@ module _ (number : ℕ) (counted : ℕ → Bool) (f : ToolFloor) (h : Sound f) (
   pub control-executes : (row m : ℕ) (d : ControlJob) → control_numbered m f.jobs.control.jobs ≡ Some d → control_starts row (Some d) (is_first_here m f) f.jobs ≡ true
       → disturbs_control number m row ≡ false → is_completion number m row ≡ false → Executes number counted (floor_fired (firing 15 m row) f)
   control-executes row m d at starts calm on =
-      controls-execute number counted f (fired_at m row f.jobs.control) (λ job. control_left number f.jobs t s e.steers row m (is_first_here m f) d at starts calm on job) t s e
+      controls-execute number counted f (fired_at m row f.jobs.control) (λ job. control_left number f.jobs t s e.steers row m (is_first_here m f) d at starts calm on job)
+      (row_names number f.jobs f.jobs t s (at_work_of number counted f e).steers row m) t s e
       (control-steers number f.jobs t s e.steers row m (is_first_here m f) d at starts calm on)
 
   -- ---- it completes
@@ -125,11 +129,11 @@ module _ (number : ℕ) (counted : ℕ → Bool) (f : ToolFloor) (h : Sound f) (
 
   -- where no process job is left in it, each counted one is done
   none_left_owed : has_none_left (control_numbered number f.jobs.control.jobs) ≡ true → owed_to counted (picture f) ≡ 0
-  none_left_owed none = nothing_left counted (picture f) (λ n kept is. let x = one_found number_of n f.substrates kept in by n x.0 x.1 (e.stands n x.0 x.1 is)) where
+  none_left_owed none = nothing_left (one_step (picture f)) counted (picture f) (λ n kept is. let x = one_found number_of n f.substrates kept in by n x.0 x.1 (e.stands n x.0 x.1 is)) where
     never : (job : List ℕ) → is_left_in number job f.jobs ≡ true → ⊥
     never job left = none_owned job mine.job (subst (λ (o : Option ControlJob). has_none_left o ≡ true) mine.at none) (left_owned number job f.jobs mine.job mine.at left)
 
-    by : (n : ℕ) (x : Substrate) → substrate_numbered n f.substrates ≡ Some x → (is_done n (picture f) ≡ true) ⊎ (IsInJob x f ⊎ Waits number x f) → is_done n (picture f) ≡ true
+    by : (n : ℕ) (x : Substrate) → substrate_numbered n f.substrates ≡ Some x → (is_done n (picture f) ≡ true) ⊎ (IsInJob number x f ⊎ Waits number x f) → is_done n (picture f) ≡ true
     by n x found (inl done) = done
     by n x found (inr (inl its)) = absurd (never its.0.id (member_left number counted f (on_base f h.base) e n x its.0 found its.1))
     by n x found (inr (inr w)) = absurd (never w.job.id w.left)
@@ -167,7 +171,7 @@ module _ (number : ℕ) (counted : ℕ → Bool) (f : ToolFloor) (h : Sound f) (
       of true q =
           let its : job_numbered x.job f.jobs.process.kept ≡ Some j = subst (λ (i : ℕ). job_numbered i f.jobs.process.kept ≡ Some j) (sym same ∙ sym ((Decides-eqb x.job j.number).0 q)) kept in
           let is = e.members k (said_there f.substrates f.jobs k false (λ i. true) x j found its) in
-          back k x found (each_done counted (picture f) h.valid zero k (found_among number_of k f.substrates x found) is)
+          back k x found (each_done (one_step (picture f)) counted (picture f) h.valid (λ i c at unfinished. one_left (picture f).chambers) zero k (found_among number_of k f.substrates x found) is)
 
   -- the first that is left in it isn't at rest
   first_not_at_rest : owed_to counted (picture f) ≡ 0 → (name : List ℕ) (names : List (List ℕ)) → mine.job.left ≡ name ∷ names

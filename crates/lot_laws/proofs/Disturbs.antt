@@ -50,7 +50,7 @@ use Rattle.floor_laws.proofs.JobSight.{none_some, some_same}
 use Rattle.floor_laws.proofs.JobLists.{job_number_is, fired_there, fired_else, fired_was, without_else, found_more}
 use Rattle.floor_laws.proofs.JobFires.{fired_jobs}
 use Rattle.floor_laws.proofs.JobEnds.{freed_alone}
-use Rattle.owed_laws.specs.Owed.{owed_to}
+use Rattle.lot_laws.specs.Lot.{owed_to}
 use Rattle.queue_laws.specs.Started.{is_left_in, AreStarted}
 use Rattle.queue_laws.specs.Steers.{is_executing, goes_on}
 use Rattle.queue_laws.proofs.Lists.{numbered_changed, gone_back}

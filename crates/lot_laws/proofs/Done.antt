@@ -26,9 +26,10 @@ use Rattle.picture_laws.proofs.Rows.{processing_agrees}
 use Rattle.floor_laws.proofs.JobSight.{none_some, some_same}
 use Rattle.floor_laws.proofs.JobLists.{none_first}
 use Rattle.floor_laws.proofs.JobSays.{member_tells}
-use Rattle.owed_laws.specs.Owed.{owed_to}
+use Rattle.lot_laws.specs.Lot.{owed_to}
 use Rattle.owed_laws.specs.Undisturbed.{Undisturbed}
-use Rattle.owed_laws.proofs.Agreeing.{agree-undisturbed, agree-owed}
+use Rattle.owed_laws.proofs.Agreeing.{agree-undisturbed}
+use Rattle.lot_laws.proofs.Owing.{agree-owed}
 use Rattle.lot_laws.specs.Lot.{is_in_named_slot, Waits, Executes}
 use Rattle.lot_laws.proofs.Standing.{joins_tell}
 use Rattle.lot_laws.proofs.Substrates.{change-executes}
@@ -90,5 +91,5 @@ module _ (number : ℕ) (counted : ℕ → Bool) (f : ToolFloor) (b : Base f) (e
 
       pub worked-executes : Executes number counted (with_moved 13 row n f)
       worked-executes =
-          change-executes number counted f e n (substrate_moves 13 row) (λ x. refl) (λ x. refl) f.modules agrees.jobs.is_member done_on (λ x found w. absurd (waits_free n x found w member)) takes
+          change-executes number counted f e n (substrate_moves 13 row) (λ x. refl) (λ x. refl) (λ x. (refl, refl)) f.modules agrees.jobs.is_member done_on (λ x found w. absurd (waits_free n x found w member)) takes
           (agree-undisturbed (worked n (state_behind row s) (picture f)) (picture (with_moved 13 row n f)) agrees counted valid stands_then).substrates

@@ -24,7 +24,7 @@ use Rattle.floor_model.specs.Machines.{substrate_starts, substrate_ready, floor_
 use Rattle.floor_model.proofs.AtRest.{none_ready}
 use Rattle.floor_moves.specs.Floor as law
 use Rattle.floor_moves.specs.Floor.{process, named}
-use Rattle.floor_moves.specs.Valid.{IsUnnamed}
+use Rattle.floor_moves.specs.Valid.{ProcessStands, IsUnnamed}
 use Rattle.place_laws.specs.Picture.{picture, of_one, number_or_none, task_of}
 use Rattle.place_laws.specs.Sound.{Sound}
 use Rattle.place_laws.proofs.Holding.{one_found, found_among}
@@ -92,7 +92,7 @@ module _ (f : ToolFloor) (sound : Sound f) (rest : floor_least f ≡ None) (m : 
     t : task_of c.task f.places ≡ process n
     t = ap (λ (u : ToolTask). task_of u f.places) q ∙ ap (λ (o : Option ℕ). process (number_or_none o)) names
 
-    stands : (d : ℕ) × (m ≡ law.chamber_module d) × ((picture f).place_of n ≡ Some (law.chamber d)) × (law.is_finished ((picture f).processing n) ≡ false)
+    stands : ProcessStands m n (picture f)
     stands = sound.valid.commands.processes m n (command_of c f.places) busy_there t
 
     s : (x : Substrate) × (substrate_numbered n f.substrates ≡ Some x)

@@ -1,5 +1,5 @@
 -- A control job stays at work where the process jobs and the jobs of substrates change.
-use Rattle.std.proofs.Common.{◌≡◌, ℕ, Bool, true, false, not, ◌&&◌, List, map, Option, Some, None, option_map, refl, sym, ◌∙◌, ap, subst, ◌⊎◌, inl, inr}
+use Rattle.std.proofs.Common.{◌≡◌, ℕ, Bool, true, false, not, ◌&&◌, List, map, find, Option, Some, None, option_map, refl, sym, ◌∙◌, ap, subst, ◌⊎◌, inl, inr}
 use Rattle.substrate.specs.Tables.{processing_number}
 use Rattle.process_job.specs.Jobs.{job_numbered}
 use Rattle.process_job.specs.declared.job.Material.{Material}
@@ -19,11 +19,12 @@ use Rattle.place_laws.specs.Sound.{Sound}
 use Rattle.floor_laws.proofs.JobSight.{none_some, some_same}
 use Rattle.floor_laws.proofs.JobChanges.{IsJobAlone, numbers_map, found_map, says_map}
 use Rattle.floor_laws.proofs.JobSays.{member_tells}
-use Rattle.owed_laws.specs.Owed.{owed_to}
-use Rattle.owed_laws.proofs.Agreeing.{agree-undisturbed, agree-owed}
+use Rattle.lot_laws.specs.Lot.{owed_to}
+use Rattle.owed_laws.proofs.Agreeing.{agree-undisturbed}
+use Rattle.lot_laws.proofs.Owing.{agree-owed}
 use Rattle.queue_laws.specs.Started.{is_left_in, AreStarted}
 use Rattle.queue_laws.specs.Steers.{Steers}
-use Rattle.lot_laws.specs.Lot.{IsInJob, Waits, Executes, IsAtWork, AtWork}
+use Rattle.lot_laws.specs.Lot.{names_slot, names_left, first_naming, IsInJob, Waits, Executes, IsAtWork, AtWork}
 use Rattle.lot_laws.proofs.AtWork.{executing_works, at_work_of, executes_by}
 use Rattle.lot_laws.proofs.Standing.{on_base, work-undisturbed}
 use Rattle.lot_laws.proofs.Steering.{control-works}
@@ -47,6 +48,7 @@ module _ (f : ToolFloor) (change : Substrate → Substrate) (alone : IsJobAlone 
     place_of = λ n. refl;
     processing = λ n _. processing_same n;
     is_aligned = λ n _. says_map change alone false (λ (s : Substrate). s.aligned) (λ s. ap (λ (x : Substrate). x.aligned) (alone s)) n f.substrates;
+    steps_of = λ k _ _. refl;
     carriers = refl;
     present_at = λ c. refl;
     is_verified = λ c _. refl;
@@ -57,7 +59,7 @@ module _ (f : ToolFloor) (change : Substrate → Substrate) (alone : IsJobAlone 
       is_stopping = λ n. refl;
       is_aborting = λ n. refl;
       is_complete = λ n. refl;
-      chambers_of = λ n. refl;
+      route_of = λ n. refl;
       names_carrier = λ c p _. refl;
       is_marked = λ c p _. refl;
     };
@@ -85,7 +87,7 @@ module _ (f : ToolFloor) (change : Substrate → Substrate) (alone : IsJobAlone 
   module _ (number : ℕ) (counted : ℕ → Bool) (before : Jobs) where
     -- how a counted one stands
     abbrev pub Stands : ℕ → Substrate → ToolFloor → Type 0
-    Stands n x g = (is_done n (picture f) ≡ true) ⊎ (IsInJob x g ⊎ Waits number x g)
+    Stands n x g = (is_done n (picture f) ≡ true) ⊎ (IsInJob number x g ⊎ Waits number x g)
 
     -- Of the jobs it is so. What is left in it was, of the same material. Who is in a job is counted. Each counted one stands, and what a job can
     -- take that is left in it is counted.
@@ -107,31 +109,36 @@ module _ (f : ToolFloor) (change : Substrate → Substrate) (alone : IsJobAlone 
       all = λ n k y i found kept left can. let b = found_before n y found in goes.joins n k b.0 i b.1 kept left (ap (λ (x : Substrate). can_join i f.shop x) b.2 ∙ can);
       substrates = (agree-undisturbed (picture f) (record (picture behind) { jobs = (picture f).jobs }) behind_agrees counted h.valid (work-undisturbed number counted f (on_base f h.base) e)).substrates;
     } where
-      by : (n : ℕ) (y : Substrate) → Stands n y behind → (is_done n (picture behind) ≡ true) ⊎ (IsInJob y behind ⊎ Waits number y behind)
+      by : (n : ℕ) (y : Substrate) → Stands n y behind → (is_done n (picture behind) ≡ true) ⊎ (IsInJob number y behind ⊎ Waits number y behind)
       by n y (inl done) = inl (done_same n ∙ done)
       by n y (inr rest) = inr rest
 
 -- ---- where control jobs change
 
-module _ (number : ℕ) (counted : ℕ → Bool) (f : ToolFloor) (c : JobStore) (same : (job : List ℕ) → is_left_in number job (record f.jobs { control = c }) ≡ is_left_in number job f.jobs) where
-  -- it stays at work, where the same process jobs are left in it
-  pub controls-work : {before : Jobs} → AtWork number counted before f → IsAtWork number before (record f.jobs { control = c }) → AtWork number counted before (with_jobs (record f.jobs { control = c }) f)
-  controls-work e steers = record {
-    steers = steers;
-    here = λ k j kept left. e.here k j kept (sym (same j.id) ∙ left);
-    members = e.members;
-    stands = λ n x found is. by n x (e.stands n x found is);
-    all = λ n k x j found kept left joins. e.all n k x j found kept (sym (same j.id) ∙ left) joins;
-    substrates = e.substrates;
-  } where
-    by : (n : ℕ) (x : Substrate) → (is_done n (picture f) ≡ true) ⊎ (IsInJob x f ⊎ Waits number x f) → (is_done n (picture f) ≡ true) ⊎ (IsInJob x (with_jobs (record f.jobs { control = c }) f) ⊎ Waits number x (with_jobs (record f.jobs { control = c }) f))
-    by n x (inl done) = inl done
-    by n x (inr (inl its)) = inr (inl its)
-    by n x (inr (inr w)) = inr (inr (record { at = w.at; job = w.job; kept = w.kept; left = same w.job.id ∙ w.left; queued = w.queued; joins = w.joins }))
+module _ (number : ℕ) (counted : ℕ → Bool) (f : ToolFloor) (c : JobStore) (same : (job : List ℕ) → is_left_in number job (record f.jobs { control = c }) ≡ is_left_in number job f.jobs)
+    (names : names_left (control_numbered number c.jobs) ≡ names_left (control_numbered number f.jobs.control.jobs))
+  where
+    -- it stays at work, where the same process jobs are left in it, in their order
+    pub controls-work : {before : Jobs} → AtWork number counted before f → IsAtWork number before (record f.jobs { control = c }) → AtWork number counted before (with_jobs (record f.jobs { control = c }) f)
+    controls-work e steers = record {
+      steers = steers;
+      here = λ k j kept left. e.here k j kept (sym (same j.id) ∙ left);
+      members = e.members;
+      stands = λ n x found is. by n x (e.stands n x found is);
+      all = λ n k x j found kept left joins. e.all n k x j found kept (sym (same j.id) ∙ left) joins;
+      substrates = e.substrates;
+    } where
+      first : (x : Substrate) → first_naming number (with_jobs (record f.jobs { control = c }) f) x ≡ first_naming number f x
+      first x = ap (find (names_slot f x)) names
 
-  -- it executes on, where it steers
-  pub controls-execute : AreTogether f.jobs → AreStarted f.jobs → Executes number counted f → Steers number (record f.jobs { control = c }) → Executes number counted (with_jobs (record f.jobs { control = c }) f)
-  controls-execute t s e v =
-      let at_work = at_work_of number counted f e in
-      executes_by number counted (with_jobs (record f.jobs { control = c }) f)
-      (controls-work at_work (control-works number f.jobs f.jobs t s at_work.steers c (executing_works (control_numbered number c.jobs) v.executes) v.alone same)) v
+      by : (n : ℕ) (x : Substrate) → (is_done n (picture f) ≡ true) ⊎ (IsInJob number x f ⊎ Waits number x f) → (is_done n (picture f) ≡ true) ⊎ (IsInJob number x (with_jobs (record f.jobs { control = c }) f) ⊎ Waits number x (with_jobs (record f.jobs { control = c }) f))
+      by n x (inl done) = inl done
+      by n x (inr (inl its)) = inr (inl (its.0, its.1, first x ∙ its.2))
+      by n x (inr (inr w)) = inr (inr (record { at = w.at; job = w.job; kept = w.kept; left = same w.job.id ∙ w.left; first = first x ∙ w.first; queued = w.queued; joins = w.joins }))
+
+    -- it executes on, where it steers
+    pub controls-execute : AreTogether f.jobs → AreStarted f.jobs → Executes number counted f → Steers number (record f.jobs { control = c }) → Executes number counted (with_jobs (record f.jobs { control = c }) f)
+    controls-execute t s e v =
+        let at_work = at_work_of number counted f e in
+        executes_by number counted (with_jobs (record f.jobs { control = c }) f)
+        (controls-work at_work (control-works number f.jobs f.jobs t s at_work.steers c (executing_works (control_numbered number c.jobs) v.executes) v.alone same)) v

@@ -1,5 +1,5 @@
 -- A control job stays at work and executes on where jobs are created, where the order of the queue changes, and where a command is fetched.
-use Rattle.std.proofs.Common.{◌≡◌, ◌≤◌, ℕ, if◌then◌else◌, arith, ◌+◌, ◌==◌, Bool, true, false, List, [], ◌∷◌, ◌++◌, Some, None, refl, sym, ◌∙◌, ap, subst, ◌⊎◌, inl, inr}
+use Rattle.std.proofs.Common.{◌≡◌, ◌≤◌, ℕ, if◌then◌else◌, arith, ◌+◌, ◌==◌, Bool, true, false, List, [], ◌∷◌, ◌++◌, Option, Some, None, refl, sym, ◌∙◌, ap, subst, ◌⊎◌, inl, inr}
 use Rattle.std.proofs.lemmas.Bool.{true≢false}
 use Rattle.robot_moves.specs.Modules.{change_module, taken}
 use Rattle.process_job.specs.Jobs.{job_numbered, created}
@@ -7,7 +7,7 @@ use Rattle.process_job.specs.Creating.{create_fault}
 use Rattle.process_job.specs.declared.job.JobSpec.{JobSpec}
 use Rattle.process_job.specs.declared.job.ProcessJob.{ProcessJob}
 use Rattle.process_job.proofs.Faults.{is_free}
-use Rattle.control_job.specs.Jobs.{headed}
+use Rattle.control_job.specs.Jobs.{job_numbered as control_numbered, headed}
 use Rattle.tool_jobs.specs.Jobs.{Jobs}
 use Rattle.tool_jobs.specs.Creating.{with_process, with_control, control_fault}
 use Rattle.tool_jobs.specs.Together.{AreTogether}
@@ -21,9 +21,10 @@ use Rattle.floor_laws.proofs.JobSays.{IsMember, member_tells, said_there}
 use Rattle.queue_laws.specs.Started.{is_left_in, AreStarted}
 use Rattle.queue_laws.proofs.Lists.{one_more_back}
 use Rattle.queue_laws.proofs.Steering.{created-steers, added-steers, added_left, headed-steers}
-use Rattle.lot_laws.specs.Lot.{IsInJob, Waits, Executes, AtWork}
+use Rattle.lot_laws.specs.Lot.{is_in_found_slot, names_slot, names_left, first_naming, IsInJob, Waits, Executes, AtWork}
+use Rattle.lot_laws.proofs.First.{find_alike, named_more}
 use Rattle.lot_laws.proofs.AtWork.{at_work_of, executes_by}
-use Rattle.lot_laws.proofs.Steering.{left_in_kept, created-works, control-works, added_same, added-works}
+use Rattle.lot_laws.proofs.Steering.{left_in_kept, name_left_kept, created-works, control-works, added_same, added_names, added-works}
 use Rattle.lot_laws.proofs.Going.{controls-work, controls-execute}
 use Rattle.lot_laws.proofs.Answers.{places-executes}
 use Rattle.lot_laws.proofs.Failing.{fetched_same}
@@ -61,6 +62,12 @@ module _ (number : ℕ) (counted : ℕ → Bool) (f : ToolFloor) (h : Sound f) (
           let less : m.one.job ≤ f.jobs.process.given = true_of_found number_of n (λ (x : Substrate). x.job ≤ f.jobs.process.given) f.substrates m.one h.base.jobs.given m.found in
           absurd (omega (arith, number, its, less))
 
+    -- the first job that names a slot is as it was
+    first_on : (x : Substrate) → first_naming number (with_jobs (with_process spec f.jobs) f) x ≡ first_naming number f x
+    first_on x =
+        find_alike (names_slot (with_jobs (with_process spec f.jobs) f) x) (names_slot f x) (names_left (control_numbered number f.jobs.control.jobs))
+        (λ name i. ap (λ (o : Option ProcessJob). is_in_found_slot o f.shop x) (named_more name f.jobs.process.kept (created (f.jobs.process.given + 1) spec) (name_left_kept number before f.jobs t s e.steers name i)))
+
     pub created-work : AtWork number counted before (with_jobs (with_process spec f.jobs) f)
     created-work = record {
       steers = created-works number before f.jobs t s e.steers spec free;
@@ -70,21 +77,22 @@ module _ (number : ℕ) (counted : ℕ → Bool) (f : ToolFloor) (h : Sound f) (
       all = λ n k x j found q left can. e.all n k x j found (back k j q left) left can;
       substrates = e.substrates;
     } where
-      by : (n : ℕ) (x : Substrate) → (is_done n (picture f) ≡ true) ⊎ (IsInJob x f ⊎ Waits number x f) → (is_done n (picture f) ≡ true) ⊎ (IsInJob x (with_jobs (with_process spec f.jobs) f) ⊎ Waits number x (with_jobs (with_process spec f.jobs) f))
+      by : (n : ℕ) (x : Substrate) → (is_done n (picture f) ≡ true) ⊎ (IsInJob number x f ⊎ Waits number x f) → (is_done n (picture f) ≡ true) ⊎ (IsInJob number x (with_jobs (with_process spec f.jobs) f) ⊎ Waits number x (with_jobs (with_process spec f.jobs) f))
       by n x (inl done) = inl done
-      by n x (inr (inl its)) = inr (inl (its.0, more_on x.job f.jobs.process.kept its.0 its.1))
-      by n x (inr (inr w)) = inr (inr (record { at = w.at; job = w.job; kept = more_on w.at f.jobs.process.kept w.job w.kept; left = w.left; queued = w.queued; joins = w.joins }))
+      by n x (inr (inl its)) = inr (inl (its.0, more_on x.job f.jobs.process.kept its.0 its.1, first_on x ∙ its.2))
+      by n x (inr (inr w)) = inr (inr (record { at = w.at; job = w.job; kept = more_on w.at f.jobs.process.kept w.job w.kept; left = w.left; first = first_on x ∙ w.first; queued = w.queued; joins = w.joins }))
 
   -- ---- a control job is created, and the order of the queue changes
 
   pub added-work : (name : List ℕ) (named : List (List ℕ)) (auto : Bool) → control_fault name named f.jobs ≡ None → AtWork number counted before (with_jobs (with_control name named auto f.jobs) f)
   added-work name named auto free =
-      controls-work number counted f (with_control name named auto f.jobs).control (λ job. added_same number before f.jobs t s e.steers name named auto free job) e
+      controls-work number counted f (with_control name named auto f.jobs).control (λ job. added_same number before f.jobs t s e.steers name named auto free job)
+      (added_names number before f.jobs t s e.steers name named auto free) e
       (added-works number before f.jobs t s e.steers name named auto free)
 
   pub headed-work : (name : List ℕ) → AtWork number counted before (with_jobs (record f.jobs { control = headed name f.jobs.control }) f)
   headed-work name =
-      controls-work number counted f (headed name f.jobs.control) (λ job. refl) e
+      controls-work number counted f (headed name f.jobs.control) (λ job. refl) refl e
       (control-works number before f.jobs t s e.steers (headed name f.jobs.control) e.steers.works e.steers.alone (λ job. refl))
 
 module _ (number : ℕ) (counted : ℕ → Bool) (f : ToolFloor) (h : Sound f) (t : AreTogether f.jobs) (s : AreStarted f.jobs) (e : Executes number counted f) where
@@ -95,11 +103,12 @@ module _ (number : ℕ) (counted : ℕ → Bool) (f : ToolFloor) (h : Sound f) (
 
   pub added-executes : (name : List ℕ) (named : List (List ℕ)) (auto : Bool) → control_fault name named f.jobs ≡ None → Executes number counted (with_jobs (with_control name named auto f.jobs) f)
   added-executes name named auto free =
-      controls-execute number counted f (with_control name named auto f.jobs).control (λ job. added_left number f.jobs t s e.steers name named auto free job) t s e
+      controls-execute number counted f (with_control name named auto f.jobs).control (λ job. added_left number f.jobs t s e.steers name named auto free job)
+      (added_names number f.jobs f.jobs t s (at_work_of number counted f e).steers name named auto free) t s e
       (added-steers number f.jobs t s e.steers name named auto free)
 
   pub headed-executes : (name : List ℕ) → Executes number counted (with_jobs (record f.jobs { control = headed name f.jobs.control }) f)
-  headed-executes name = controls-execute number counted f (headed name f.jobs.control) (λ job. refl) t s e (headed-steers number f.jobs t s e.steers name)
+  headed-executes name = controls-execute number counted f (headed name f.jobs.control) (λ job. refl) refl t s e (headed-steers number f.jobs t s e.steers name)
 
 -- ---- a command is fetched
 
@@ -107,7 +116,6 @@ pub fetched-executes : (number : ℕ) (counted : ℕ → Bool) (f : ToolFloor) �
 fetched-executes number counted f e m = places-executes number counted f e f.places (change_module m taken f.modules) (λ k is. is) (record {
   here = e.substrates.here;
   finished = e.substrates.finished;
-  in_chamber = e.substrates.in_chamber;
   in_slot = e.substrates.in_slot;
   to_chamber = λ k n c d g q. e.substrates.to_chamber k n c d (sym (fetched_same f m k) ∙ g) q;
   not_given = e.substrates.not_given;

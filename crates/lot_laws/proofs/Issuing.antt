@@ -25,9 +25,10 @@ use Rattle.picture_laws.proofs.Issuing.{issuing_agrees}
 use Rattle.floor_laws.proofs.IssueViews.{IsSeen, IsView, holder_seen}
 use Rattle.floor_laws.proofs.IssueTargets.{IsTarget, free_target_is}
 use Rattle.floor_laws.proofs.IssuePlans.{planned_may}
-use Rattle.owed_laws.specs.Owed.{owed_to}
+use Rattle.lot_laws.specs.Lot.{one_step, owed_to}
 use Rattle.owed_laws.proofs.Columns.{issued-stays}
-use Rattle.owed_laws.proofs.Agreeing.{agree-undisturbed, agree-owed}
+use Rattle.owed_laws.proofs.Agreeing.{agree-undisturbed}
+use Rattle.lot_laws.proofs.Owing.{agree-owed}
 use Rattle.lot_laws.specs.Lot.{IsInJob, Waits, Executes}
 use Rattle.lot_laws.proofs.Standing.{on_base, undisturbed}
 
@@ -108,7 +109,7 @@ module _ (number : ℕ) (counted : ℕ → Bool) (f : ToolFloor) (h : Sound f) (
   given-executes m None q = (e, refl)
   given-executes m (Some move) q =
       let agrees = issuing_agrees m move f (is_idle_module (module_at m f.modules) (move_is m (views f) f.modules move q).idle) in
-      let stays = issued-stays counted (picture f) (undisturbed number counted f (on_base f h.base) e) m (task_of move.task f.places) (planned_fits f h.base m move q) in
+      let stays = issued-stays (one_step (picture f)) counted (picture f) (undisturbed number counted f (on_base f h.base) e) m (task_of move.task f.places) (planned_fits f h.base m move q) in
       let valid = issued-keeps (picture f) m (task_of move.task f.places) (planned_may f h.base h.valid m move q) h.valid in (
         record {
           steers = e.steers;
@@ -121,10 +122,10 @@ module _ (number : ℕ) (counted : ℕ → Bool) (f : ToolFloor) (h : Sound f) (
         agree-owed (issued m (task_of move.task f.places) (picture f)) (picture (given_to m (Some move) f)) agrees counted ∙ stays.1,
       )
     where
-      by : (n : ℕ) (x : Substrate) → (is_done n (picture f) ≡ true) ⊎ (IsInJob x f ⊎ Waits number x f) → (is_done n (picture f) ≡ true) ⊎ (IsInJob x (given_to m (Some move) f) ⊎ Waits number x (given_to m (Some move) f))
+      by : (n : ℕ) (x : Substrate) → (is_done n (picture f) ≡ true) ⊎ (IsInJob number x f ⊎ Waits number x f) → (is_done n (picture f) ≡ true) ⊎ (IsInJob number x (given_to m (Some move) f) ⊎ Waits number x (given_to m (Some move) f))
       by n x (inl done) = inl done
       by n x (inr (inl its)) = inr (inl its)
-      by n x (inr (inr w)) = inr (inr (record { at = w.at; job = w.job; kept = w.kept; left = w.left; queued = w.queued; joins = w.joins }))
+      by n x (inr (inr w)) = inr (inr (record { at = w.at; job = w.job; kept = w.kept; left = w.left; first = w.first; queued = w.queued; joins = w.joins }))
 
   -- rows 1 to 4 of table 16
   pub issue-executes : (m row : ℕ) → is_one_of (1 ∷ 2 ∷ 3 ∷ 4 ∷ []) row ≡ true → Executes number counted (floor_fired (firing 16 m row) f) × (owed_to counted (picture (floor_fired (firing 16 m row) f)) ≡ owed_to counted (picture f))

@@ -36,7 +36,7 @@ use Rattle.place_laws.specs.Picture.{picture}
 use Rattle.place_laws.specs.Sound.{Sound}
 use Rattle.floor_laws.proofs.ShopTables.{is_shop_row}
 use Rattle.floor_laws.proofs.JobSight.{none_some, some_same}
-use Rattle.owed_laws.specs.Owed.{owed_to}
+use Rattle.lot_laws.specs.Lot.{owed_to}
 use Rattle.queue_laws.specs.Started.{AreStarted}
 use Rattle.queue_laws.specs.Steers.{has_none_left, disturbs_process}
 use Rattle.queue_laws.proofs.Steering.{process-ready, control-ready, completes}

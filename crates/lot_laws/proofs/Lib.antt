@@ -1,5 +1,7 @@
 pub mod AtWork
 pub mod Naming
+pub mod First
+pub mod Owing
 pub mod Standing
 pub mod Works
 pub mod Steering

@@ -1,6 +1,6 @@
 -- A control job stays at work where the state of a process job changes, where one gets its members, and where one ends. So it executes on
 -- behind each row of a process job that starts and doesn't disturb it, and as much is owed.
-use Rattle.std.proofs.Common.{◌≡◌, ◌≤◌, ◌<◌, ℕ, ◌==◌, Bool, true, false, if◌then◌else◌, not, List, [], ◌∷◌, Option, Some, option_map, refl, sym, ◌∙◌, ap, subst, ◌⊎◌, inl, inr, arith}
+use Rattle.std.proofs.Common.{◌≡◌, ◌≤◌, ◌<◌, ℕ, ◌==◌, Bool, true, false, if◌then◌else◌, not, ◌&&◌, List, [], ◌∷◌, Option, Some, option_map, refl, sym, ◌∙◌, ap, subst, ◌⊎◌, inl, inr, arith}
 use Rattle.std.proofs.lemmas.Bool.{true≢false, and_parts}
 use Rattle.std.proofs.lemmas.Bool.Decides.{Decides-eqb}
 use Rattle.gem_tables.specs.Table.{is_among, firing, after}
@@ -12,13 +12,17 @@ use Rattle.process_job.specs.Jobs.{job_numbered, change_numbered, without_number
 use Rattle.process_job.specs.declared.record.JobState.{JobState}
 use Rattle.process_job.specs.declared.record.JobState.TheVariants as state
 use Rattle.process_job.specs.declared.job.ProcessJob.{ProcessJob}
-use Rattle.tool_jobs.specs.Jobs.{Jobs}
+use Rattle.control_job.specs.Tables.{state_number}
+use Rattle.control_job.specs.Jobs.{job_numbered as control_numbered}
+use Rattle.control_job.specs.declared.job.ControlJob.{ControlJob}
+use Rattle.tool_jobs.specs.Jobs.{Jobs, owner}
+use Rattle.tool_jobs.specs.Wants.{is_ending, is_first, is_first_left}
 use Rattle.tool_jobs.specs.Rows.{ended, process_starts, process_fired}
 use Rattle.tool_jobs.specs.Together.{AreTogether}
 use Rattle.tool_jobs.proofs.Ending.{fired_ends}
 use Rattle.floor_model.specs.declared.tracked.Substrate.{Substrate}
 use Rattle.floor_model.specs.Floor.{ToolFloor, with_jobs, substrate_numbered}
-use Rattle.floor_model.specs.Jobs.{job_of, joined, freed, with_members, without_members, can_join, sight, found_sight, gets_members, frees}
+use Rattle.floor_model.specs.Jobs.{job_of, joined, freed, with_members, without_members, can_join, is_here, sight, found_sight, gets_members, frees}
 use Rattle.floor_model.specs.Machines.{floor_starts, floor_fired}
 use Rattle.floor_moves.specs.Floor as law
 use Rattle.floor_moves.specs.Floor.{is_done}
@@ -27,22 +31,24 @@ use Rattle.place_laws.specs.Sound.{Sound}
 use Rattle.floor_laws.proofs.JobSight.{none_some, some_same}
 use Rattle.floor_laws.proofs.JobWork.{finished_same}
 use Rattle.floor_laws.proofs.JobSays.{said_there}
-use Rattle.floor_laws.proofs.JobLists.{job_number_is, none_first, fired_there, fired_else, fired_was, fired_on, numbered_without, without_else}
+use Rattle.floor_laws.proofs.JobLists.{job_number_is, none_first, fired_there, fired_else, fired_was, numbered_without, without_else}
 use Rattle.floor_laws.proofs.JobStates.{complete_tells}
 use Rattle.floor_laws.proofs.JobChanges.{map_same}
 use Rattle.floor_laws.proofs.JobFires.{over_before, fired_jobs, stays_alone}
 use Rattle.floor_laws.proofs.JobJoins.{joined_alone}
 use Rattle.floor_laws.proofs.JobEnds.{freed_alone}
-use Rattle.owed_laws.specs.Owed.{owed_to}
+use Rattle.lot_laws.specs.Lot.{owed_to}
 use Rattle.queue_laws.specs.Started.{is_queued, is_left_in, AreStarted}
 use Rattle.queue_laws.specs.Steers.{Steers, disturbs_process}
 use Rattle.queue_laws.proofs.Lists.{gone_back, names_differ}
 use Rattle.queue_laws.proofs.Rows.{stays_queued}
-use Rattle.queue_laws.proofs.Steering.{process-goes, process-steers, ended-steers}
-use Rattle.lot_laws.specs.Lot.{IsInJob, Waits, Executes, IsAtWork, AtWork}
+use Rattle.queue_laws.proofs.Owners.{owner_is}
+use Rattle.queue_laws.proofs.Steering.{left_owned, process-goes, process-steers, ended-steers}
+use Rattle.lot_laws.specs.Lot.{names_left, first_naming, IsInJob, Waits, Executes, IsAtWork, AtWork}
+use Rattle.lot_laws.proofs.First.{named_on, first_alone, first_fired, first_ended, first_is}
 use Rattle.lot_laws.proofs.AtWork.{going_whole, at_work_of, executes_by}
 use Rattle.lot_laws.proofs.Standing.{on_base, joins_tell, member_begun}
-use Rattle.lot_laws.proofs.Steering.{state-works, ended_back, ended_on, ended-works}
+use Rattle.lot_laws.proofs.Steering.{found as its_control, state-works, ended_back, ended_on, ended_names, ended-works}
 use Rattle.lot_laws.proofs.Going.{behind, behind_owed, Stands, GoesOn, works_on}
 
 -- ---- numbers
@@ -100,7 +106,7 @@ module _ (number : ℕ) (counted : ℕ → Bool) (f : ToolFloor) (h : Sound f) (
 
     -- one that waits, where it isn't for the job of the row
     waits_else : (row : ℕ) (x : Substrate) (v : Waits number x f) → (v.at ≡ n → ⊥) → Waits number x (with_jobs (fired_jobs n row f.jobs) f)
-    waits_else row x v other = record { at = v.at; job = v.job; kept = fired_else n row v.at other f.jobs.process.kept ∙ v.kept; left = v.left; queued = v.queued; joins = v.joins }
+    waits_else row x v other = record { at = v.at; job = v.job; kept = fired_else n row v.at other f.jobs.process.kept ∙ v.kept; left = v.left; first = first_fired number f x n row ∙ v.first; queued = v.queued; joins = v.joins }
 
     -- ---- rows 1, 4 and 6
 
@@ -116,14 +122,15 @@ module _ (number : ℕ) (counted : ℕ → Bool) (f : ToolFloor) (h : Sound f) (
           job = fires_row row v.job;
           kept = fired_there n row f.jobs.process.kept ∙ ap (option_map (fires_row row)) (subst (λ (m : ℕ). job_numbered m f.jobs.process.kept ≡ Some v.job) ((Decides-eqb v.at n).0 q) v.kept);
           left = v.left;
+          first = first_fired number f x n row ∙ v.first;
           queued = stays_queued row v.job.states.state two v.queued;
           joins = v.joins;
         }
 
         stands : (m : ℕ) (x : Substrate) → Stands f (λ (x : Substrate). x) stays_alone (fired_jobs n row f.jobs) number counted before m x f → Stands f (λ (x : Substrate). x) stays_alone (fired_jobs n row f.jobs) number counted before m x (behind f (λ (x : Substrate). x) stays_alone (fired_jobs n row f.jobs))
         stands m x (inl done) = inl done
-        stands m x (inr (inl its)) = let on = fired_on n row x.job f.jobs.process.kept its.0 its.1 in inr (inl (on.0, on.1))
-        stands m x (inr (inr v)) = let u = waits x v (v.at == n) refl in inr (inr (record { at = u.at; job = u.job; kept = u.kept; left = u.left; queued = u.queued; joins = u.joins }))
+        stands m x (inr (inl its)) = let on = named_on n row x.job f.jobs.process.kept its.0 its.1 in inr (inl (on.0, on.1, first_fired number f x n row ∙ its.2 ∙ ap (λ (name : List ℕ). Some name) (sym on.2)))
+        stands m x (inr (inr v)) = let u = waits x v (v.at == n) refl in inr (inr (record { at = u.at; job = u.job; kept = u.kept; left = u.left; first = u.first; queued = u.queued; joins = u.joins }))
 
         goes : GoesOn f (λ (x : Substrate). x) stays_alone (fired_jobs n row f.jobs) number counted before
         goes = record {
@@ -142,22 +149,37 @@ module _ (number : ℕ) (counted : ℕ → Bool) (f : ToolFloor) (h : Sound f) (
     joined_job : (x : Substrate) → can_join j f.shop x ≡ true → (joined j f.shop x).job ≡ n
     joined_job x q = ap (λ (b : Bool). (if b then record x { job = j.number } else x).job) q ∙ number_is.0
 
-    pub joined-work : is_left_in number j.id f.jobs ≡ true → IsAtWork number before (fired_jobs n 2 f.jobs) → AtWork number counted before (with_jobs (fired_jobs n 2 f.jobs) (with_members j f))
-    joined-work left_in steers = works_on f (joined j f.shop) (joined_alone f j) (fired_jobs n 2 f.jobs) number counted before h e goes where
-      then_in : (x : Substrate) → can_join j f.shop x ≡ true → IsInJob (joined j f.shop x) (behind f (joined j f.shop) (joined_alone f j) (fired_jobs n 2 f.jobs))
-      then_in x q = (fires_row 2 j, ap (λ (k : ℕ). job_numbered k (change_numbered n (fires_row 2) f.jobs.process.kept)) (joined_job x q) ∙ fired_there n 2 f.jobs.process.kept ∙ ap (option_map (fires_row 2)) known)
+    -- the job is the first that is left in it
+    abbrev pub IsFirstLeft : Type 0
+    IsFirstLeft = is_first j.id (names_left (control_numbered number f.jobs.control.jobs)) ≡ true
+
+    pub joined-work : is_left_in number j.id f.jobs ≡ true → IsFirstLeft → IsAtWork number before (fired_jobs n 2 f.jobs) → AtWork number counted before (with_jobs (fired_jobs n 2 f.jobs) (with_members j f))
+    joined-work left_in head steers = works_on f (joined j f.shop) (joined_alone f j) (fired_jobs n 2 f.jobs) number counted before h e goes where
+      -- the first that names a slot is as it was
+      alone_on : (x : Substrate) → first_naming number (behind f (joined j f.shop) (joined_alone f j) (fired_jobs n 2 f.jobs)) (joined j f.shop x) ≡ first_naming number (with_jobs (fired_jobs n 2 f.jobs) f) x
+      alone_on x = first_alone number (behind f (joined j f.shop) (joined_alone f j) (fired_jobs n 2 f.jobs)) x (joined j f.shop x) (ap (λ (y : Substrate). y.carrier) (joined_alone f j x)) (ap (λ (y : Substrate). y.slot) (joined_alone f j x))
+
+      first_on : (x : Substrate) → first_naming number (behind f (joined j f.shop) (joined_alone f j) (fired_jobs n 2 f.jobs)) (joined j f.shop x) ≡ first_naming number f x
+      first_on x = alone_on x ∙ first_fired number f x n 2
+
+      then_in : (x : Substrate) → can_join j f.shop x ≡ true → IsInJob number (joined j f.shop x) (behind f (joined j f.shop) (joined_alone f j) (fired_jobs n 2 f.jobs))
+      then_in x q = (
+        fires_row 2 j,
+        ap (λ (k : ℕ). job_numbered k (change_numbered n (fires_row 2) f.jobs.process.kept)) (joined_job x q) ∙ fired_there n 2 f.jobs.process.kept ∙ ap (option_map (fires_row 2)) known,
+        first_on x ∙ first_is number f x n j t.process.apart known head (joins_tell j f x q).named,
+      )
 
       stands : (m : ℕ) (x : Substrate) → substrate_numbered m f.substrates ≡ Some x → Stands f (joined j f.shop) (joined_alone f j) (fired_jobs n 2 f.jobs) number counted before m x f → (b : Bool) → can_join j f.shop x ≡ b
           → Stands f (joined j f.shop) (joined_alone f j) (fired_jobs n 2 f.jobs) number counted before m (joined j f.shop x) (behind f (joined j f.shop) (joined_alone f j) (fired_jobs n 2 f.jobs))
       stands m x found (inl done) b q = inl done
       stands m x found (inr how) true q = inr (inl (then_in x q))
       stands m x found (inr (inl its)) false q =
-          let on = fired_on n 2 x.job f.jobs.process.kept its.0 its.1 in
-          inr (inl (on.0, ap (λ (y : Substrate). job_of y (fired_jobs n 2 f.jobs)) (joined_same x q) ∙ on.1))
+          let on = named_on n 2 x.job f.jobs.process.kept its.0 its.1 in
+          inr (inl (on.0, ap (λ (y : Substrate). job_of y (fired_jobs n 2 f.jobs)) (joined_same x q) ∙ on.1, first_on x ∙ its.2 ∙ ap (λ (name : List ℕ). Some name) (sym on.2)))
       stands m x found (inr (inr v)) false q =
           let other : v.at ≡ n → ⊥ = λ same. true≢false (sym v.joins ∙ ap (λ (i : ProcessJob). can_join i f.shop x) (that v.at v.job v.kept same) ∙ q) in
           let u = waits_else 2 x v other in
-          inr (inr (record { at = u.at; job = u.job; kept = u.kept; left = u.left; queued = u.queued; joins = ap (can_join u.job f.shop) (joined_same x q) ∙ u.joins }))
+          inr (inr (record { at = u.at; job = u.job; kept = u.kept; left = u.left; first = alone_on x ∙ u.first; queued = u.queued; joins = ap (can_join u.job f.shop) (joined_same x q) ∙ u.joins }))
 
       members : (m : ℕ) (x : Substrate) (i : ProcessJob) → substrate_numbered m f.substrates ≡ Some x → job_of (joined j f.shop x) (fired_jobs n 2 f.jobs) ≡ Some i → (b : Bool) → can_join j f.shop x ≡ b → counted m ≡ true
       members m x i found its true q = e.all m n x j found known left_in q
@@ -206,13 +228,25 @@ module _ (number : ℕ) (counted : ℕ → Bool) (f : ToolFloor) (h : Sound f) (
             let less : 0 < n = number_is.1 in
             omega (arith, same, zero, less))
 
+        -- the first that names a slot is as it was, where it is another one
+        first_on : (x : Substrate) (k : ℕ) (i : ProcessJob) → job_numbered k f.jobs.process.kept ≡ Some i → (k ≡ n → ⊥) → first_naming number f x ≡ Some i.id
+            → first_naming number (behind f (freed n) (freed_alone n) (ended n f.jobs)) (freed n x) ≡ Some i.id
+        first_on x k i its other is =
+            first_alone number (behind f (freed n) (freed_alone n) (ended n f.jobs)) x (freed n x) (ap (λ (y : Substrate). y.carrier) (freed_alone n x)) (ap (λ (y : Substrate). y.slot) (freed_alone n x))
+            ∙ first_ended number f x n j known (names_left (control_numbered number (ended n f.jobs).control.jobs)) (ended_names number before f.jobs t s e.steers n j known) i.id
+            (names_differ k n f.jobs.process.kept i j t.process.apart its known (differs k n other)) is
+
         stands : (m : ℕ) (x : Substrate) → substrate_numbered m f.substrates ≡ Some x → Stands f (freed n) (freed_alone n) (ended n f.jobs) number counted before m x f
             → Stands f (freed n) (freed_alone n) (ended n f.jobs) number counted before m (freed n x) (behind f (freed n) (freed_alone n) (ended n f.jobs))
         stands m x found (inl is) = inl is
         stands m x found (inr (inl its)) = of (x.job == n) refl where
           of : (b : Bool) → (x.job == n) ≡ b → Stands f (freed n) (freed_alone n) (ended n f.jobs) number counted before m (freed n x) (behind f (freed n) (freed_alone n) (ended n f.jobs))
           of true q = inl (done m x found ((Decides-eqb x.job n).0 q))
-          of false q = inr (inl (its.0, ap (λ (y : Substrate). job_numbered y.job (without_numbered n f.jobs.process.kept)) (freed_same x q) ∙ without_else n x.job (apart_from x.job n q) f.jobs.process.kept ∙ its.1))
+          of false q = inr (inl (
+            its.0,
+            ap (λ (y : Substrate). job_numbered y.job (without_numbered n f.jobs.process.kept)) (freed_same x q) ∙ without_else n x.job (apart_from x.job n q) f.jobs.process.kept ∙ its.1,
+            first_on x x.job its.0 its.1 (apart_from x.job n q) its.2,
+          ))
         stands m x found (inr (inr v)) =
             let other : v.at ≡ n → ⊥ = λ same. let one = that v.at v.job v.kept same in apart (subst (λ (i : ProcessJob). is_queued i.states.state ≡ true) one v.queued) (subst (λ (i : ProcessJob). is_left_in number i.id f.jobs ≡ true) one v.left) in
             inr (inr (record {
@@ -220,6 +254,7 @@ module _ (number : ℕ) (counted : ℕ → Bool) (f : ToolFloor) (h : Sound f) (
               job = v.job;
               kept = without_else n v.at other f.jobs.process.kept ∙ v.kept;
               left = ended_on number before f.jobs t s e.steers n j v.job.id known (names_differ v.at n f.jobs.process.kept v.job j t.process.apart v.kept known (differs v.at n other)) v.left;
+              first = first_on x v.at v.job v.kept other v.first;
               queued = v.queued;
               joins = ap (can_join v.job f.shop) (freed_same x (free_apart v.job x v.joins)) ∙ v.joins;
             }))
@@ -302,8 +337,19 @@ module _ (number : ℕ) (counted : ℕ → Bool) (f : ToolFloor) (h : Sound f) (
     state-executes : (row : ℕ) → (row == 2) ≡ false → Steers number (fired_jobs n row f.jobs) → Executes number counted (with_jobs (fired_jobs n row f.jobs) f)
     state-executes row two v = executes_by number counted (with_jobs (fired_jobs n row f.jobs) f) (state-work number counted f h t s at_work n j known row two (works_so row v)) v
 
-    joined-executes : is_left_in number j.id f.jobs ≡ true → Steers number (fired_jobs n 2 f.jobs) → Executes number counted (with_jobs (fired_jobs n 2 f.jobs) (with_members j f))
-    joined-executes left v = executes_by number counted (with_jobs (fired_jobs n 2 f.jobs) (with_members j f)) (joined-work number counted f h t s at_work n j known left (works_so 2 v)) v
+    joined-executes : is_left_in number j.id f.jobs ≡ true → is_first j.id (names_left (control_numbered number f.jobs.control.jobs)) ≡ true → Steers number (fired_jobs n 2 f.jobs)
+        → Executes number counted (with_jobs (fired_jobs n 2 f.jobs) (with_members j f))
+    joined-executes left head v = executes_by number counted (with_jobs (fired_jobs n 2 f.jobs) (with_members j f)) (joined-work number counted f h t s at_work n j known left head (works_so 2 v)) v
+
+    -- what row 2 starts at is the first that is left in its control job
+    first_left : is_left_in number j.id f.jobs ≡ true → process_starts 2 (Some j) (sight j f) f.jobs ≡ true → is_first j.id (names_left (control_numbered number f.jobs.control.jobs)) ≡ true
+    first_left left st =
+        let c = its_control number f.jobs f.jobs t s at_work.steers in
+        let wanted = (and_parts (is_among job_number (state.Queued ∷ []) j.states.state) (is_first_left j.id (owner j.id f.jobs) && is_here j f.shop) st).1 in
+        let first = (and_parts (is_first_left j.id (owner j.id f.jobs)) (is_here j f.shop) wanted).0 in
+        let own : is_first_left j.id (Some c.job) ≡ true = subst (λ (o : Option ControlJob). is_first_left j.id o ≡ true) (owner_is j.id number f.jobs c.job t c.at (left_owned number j.id f.jobs c.job c.at left)) first in
+        ap (λ (o : Option ControlJob). is_first j.id (names_left o)) c.at
+        ∙ (and_parts ((state_number c.job.states.state == 3) && not (is_ending c.job.states.ending)) (is_first j.id c.job.left) own).1
 
     ended-executes : ((k : ℕ) (x : Substrate) → substrate_numbered k f.substrates ≡ Some x → x.job ≡ n → is_done k (picture f) ≡ true)
         → (is_queued j.states.state ≡ true → is_left_in number j.id f.jobs ≡ true → ⊥) → Executes number counted (with_jobs (ended n f.jobs) (without_members j.number f))
@@ -340,7 +386,7 @@ module _ (number : ℕ) (counted : ℕ → Bool) (f : ToolFloor) (h : Sound f) (
         joins : is_left_in number j.id f.jobs ≡ true → Starts 2 → Calm 2 → Keeps 2
         joins left st c =
             subst (λ (g : ToolFloor). Executes number counted g × (owed_to counted (picture g) ≡ owed_to counted (picture f))) (sym (two_is f n j known))
-            (joined-executes left (steers 2 st c), behind_owed f (joined j f.shop) (joined_alone f j) (fired_jobs n 2 f.jobs) counted)
+            (joined-executes left (first_left left st) (steers 2 st c), behind_owed f (joined j f.shop) (joined_alone f j) (fired_jobs n 2 f.jobs) counted)
 
         owed_ended : owed_to counted (picture (with_jobs (ended n f.jobs) (without_members j.number f))) ≡ owed_to counted (picture f)
         owed_ended = behind_owed f (freed j.number) (freed_alone j.number) (ended n f.jobs) counted

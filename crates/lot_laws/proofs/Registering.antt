@@ -52,10 +52,11 @@ use Rattle.floor_laws.proofs.RegSlots.{Filling, can, may, slot_agrees}
 use Rattle.floor_laws.proofs.RegFilled.{slots_filled}
 use Rattle.floor_laws.proofs.RegVerified.{jobs_stay, found_changed, Becomes, becomes}
 use Rattle.floor_laws.proofs.ShopAccess.{map_access}
-use Rattle.owed_laws.specs.Owed.{owed_to}
+use Rattle.lot_laws.specs.Lot.{one_step, owed_to}
 use Rattle.owed_laws.specs.Undisturbed.{Undisturbed}
 use Rattle.owed_laws.proofs.Carrying.{registered-stays}
-use Rattle.owed_laws.proofs.Agreeing.{agree-undisturbed, agree-owed}
+use Rattle.owed_laws.proofs.Agreeing.{agree-undisturbed}
+use Rattle.lot_laws.proofs.Owing.{agree-owed}
 use Rattle.queue_laws.specs.Started.{is_left_in}
 use Rattle.lot_laws.specs.Lot.{IsInJob, Waits, Executes, AtWork}
 use Rattle.lot_laws.proofs.Naming.{slot_names_carrier}
@@ -131,15 +132,15 @@ module _ (number : ℕ) (counted : ℕ → Bool) (before : Jobs) (s : Floor) (va
       agree-owed (registered_by_numbers c.number port.0 slot.0 (picture (with_shop s f))) (picture (with_shop s behind)) agrees counted ∙ stays.1,
     ) where
       stays : Undisturbed counted (registered_by_numbers c.number port.0 slot.0 (picture (with_shop s f))) × (owed_to counted (registered_by_numbers c.number port.0 slot.0 (picture (with_shop s f))) ≡ owed_to counted (picture (with_shop s f)))
-      stays = registered-stays counted (picture (with_shop s f)) fill.by_numbers u c.number port.0 slot.0
+      stays = registered-stays (one_step (picture (with_shop s f))) counted (picture (with_shop s f)) fill.by_numbers u c.number port.0 slot.0
 
-      on : (k : ℕ) (y : Substrate) → substrate_numbered k f.substrates ≡ Some y → substrate_numbered k (f.substrates ++ new ∷ []) ≡ Some y → counted k ≡ true → (is_done k (picture (with_shop s f)) ≡ true) ⊎ (IsInJob y (with_shop s f) ⊎ Waits number y (with_shop s f))
-          → (is_done k (picture (with_shop s behind)) ≡ true) ⊎ (IsInJob y (with_shop s behind) ⊎ Waits number y (with_shop s behind))
+      on : (k : ℕ) (y : Substrate) → substrate_numbered k f.substrates ≡ Some y → substrate_numbered k (f.substrates ++ new ∷ []) ≡ Some y → counted k ≡ true → (is_done k (picture (with_shop s f)) ≡ true) ⊎ (IsInJob number y (with_shop s f) ⊎ Waits number y (with_shop s f))
+          → (is_done k (picture (with_shop s behind)) ≡ true) ⊎ (IsInJob number y (with_shop s behind) ⊎ Waits number y (with_shop s behind))
       on k y was there is (inl done) = inl (done_on k y was there (other k is) done)
       on k y was there is (inr (inl its)) = inr (inl its)
-      on k y was there is (inr (inr w)) = inr (inr (record { at = w.at; job = w.job; kept = w.kept; left = w.left; queued = w.queued; joins = w.joins }))
+      on k y was there is (inr (inr w)) = inr (inr (record { at = w.at; job = w.job; kept = w.kept; left = w.left; first = w.first; queued = w.queued; joins = w.joins }))
 
-      stands : (k : ℕ) (y : Substrate) → substrate_numbered k (f.substrates ++ new ∷ []) ≡ Some y → counted k ≡ true → (substrate_numbered k f.substrates ≡ Some y) ⊎ ((new.number ≡ k) × (y ≡ new)) → (is_done k (picture (with_shop s behind)) ≡ true) ⊎ (IsInJob y (with_shop s behind) ⊎ Waits number y (with_shop s behind))
+      stands : (k : ℕ) (y : Substrate) → substrate_numbered k (f.substrates ++ new ∷ []) ≡ Some y → counted k ≡ true → (substrate_numbered k f.substrates ≡ Some y) ⊎ ((new.number ≡ k) × (y ≡ new)) → (is_done k (picture (with_shop s behind)) ≡ true) ⊎ (IsInJob number y (with_shop s behind) ⊎ Waits number y (with_shop s behind))
       stands k y there is (inl was) = on k y was there is (e.stands k y was is)
       stands k y there is (inr q) = absurd (other k is (sym q.0))
 

@@ -46,14 +46,16 @@ use Rattle.floor_laws.proofs.RemAgree.{forgetting_agrees}
 use Rattle.floor_laws.proofs.RemPlaces.{filter_all}
 use Rattle.floor_laws.proofs.RemSound.{OwnerEnded, Kept, vacated_kept}
 use Rattle.floor_laws.proofs.ShopAccess.{SameAccess, access_same}
-use Rattle.owed_laws.specs.Owed.{owed_to}
+use Rattle.lot_laws.specs.Lot.{one_step, owed_to}
 use Rattle.owed_laws.specs.Undisturbed.{Undisturbed}
-use Rattle.owed_laws.proofs.Agreeing.{agree-undisturbed, agree-owed}
+use Rattle.owed_laws.proofs.Agreeing.{agree-undisturbed}
+use Rattle.lot_laws.proofs.Owing.{agree-owed}
 use Rattle.owed_laws.proofs.Carrying.{forgotten-stays}
-use Rattle.lot_laws.specs.Lot.{IsInJob, Waits, AtWork}
+use Rattle.lot_laws.specs.Lot.{is_in_named_slot, first_naming, IsInJob, Waits, AtWork}
+use Rattle.lot_laws.proofs.First.{any_alike, first_shop}
 use Rattle.lot_laws.proofs.Orderly.{found_among_all}
 use Rattle.lot_laws.proofs.Shopping.{vacated-works}
-use Rattle.lot_laws.proofs.Shops.{any_alike, same_use, shop-works}
+use Rattle.lot_laws.proofs.Shops.{same_use, shop-works}
 use Rattle.lot_laws.proofs.Standing.{on_base, work-undisturbed}
 use Rattle.lot_laws.proofs.Works.{WorksOn}
 use Rattle.floor_laws.proofs.FloorRemoved.{owner_ended}
@@ -133,10 +135,15 @@ module _ (number : ℕ) (counted : ℕ → Bool) (f : ToolFloor) (kept : Kept f)
           ap (λ (y : Carrier). (y.number == x.carrier) && bytes_eq y.name other) same
           ∙ ap (λ (b : Bool). b && bytes_eq c.name other) (swapped x.carrier c.number (not-true (is_of c.number x) away))
 
+  slot_same : (x : Substrate) → not (is_of c.number x) ≡ true → (j : ProcessJob) → is_in_named_slot j taken.shop x ≡ is_in_named_slot j f.shop x
+  slot_same x away j = any_alike (names_slot_of taken.shop x) (names_slot_of f.shop x) j.material (λ m. ap (λ (b : Bool). b && is_slot_named m.slots x.slot) (carrier_same x away m.carrier))
+
   join_same : (x : Substrate) → not (is_of c.number x) ≡ true → (j : ProcessJob) → can_join j taken.shop x ≡ can_join j f.shop x
-  join_same x away j =
-      ap (λ (b : Bool). (is_at_source x.states.transport && is_needing x.states.processing) && ((x.job == 0) && b))
-      (any_alike (names_slot_of taken.shop x) (names_slot_of f.shop x) j.material (λ m. ap (λ (b : Bool). b && is_slot_named m.slots x.slot) (carrier_same x away m.carrier)))
+  join_same x away j = ap (λ (b : Bool). (is_at_source x.states.transport && is_needing x.states.processing) && ((x.job == 0) && b)) (slot_same x away j)
+
+  -- the first job that names a slot
+  first_same : (x : Substrate) → not (is_of c.number x) ≡ true → first_naming number taken x ≡ first_naming number f x
+  first_same x away = first_shop number f x taken.shop (slot_same x away)
 
   -- those that are left
   was : (n : ℕ) (x : Substrate) → substrate_numbered n taken.substrates ≡ Some x → (substrate_numbered n f.substrates ≡ Some x) × (not (is_of c.number x) ≡ true)
@@ -156,7 +163,7 @@ module _ (number : ℕ) (counted : ℕ → Bool) (f : ToolFloor) (kept : Kept f)
       of false q = q
 
   stays : Undisturbed counted (forgotten c.number (picture f)) × (owed_to counted (forgotten c.number (picture f)) ≡ owed_to counted (picture f))
-  stays = forgotten-stays counted (picture f) kept.valid (work-undisturbed number counted f (on_base f kept.base) e) c.number ends
+  stays = forgotten-stays (one_step (picture f)) counted (picture f) kept.valid (work-undisturbed number counted f (on_base f kept.base) e) c.number ends
 
   pub taken-works : WorksOn number counted before f (with_shop (floor_of ps (without name f.shop.carriers) next) (without_carrier (Some c.number) f))
   taken-works = (
@@ -171,10 +178,10 @@ module _ (number : ℕ) (counted : ℕ → Bool) (f : ToolFloor) (kept : Kept f)
     refl,
     agree-owed (forgotten c.number (picture f)) (picture taken) agrees counted ∙ stays.1,
   ) where
-    stands : (n : ℕ) (x : Substrate) → substrate_numbered n taken.substrates ≡ Some x → not (is_of c.number x) ≡ true → (is_done_by_numbers n (picture f) ≡ true) ⊎ (IsInJob x f ⊎ Waits number x f) → (is_done_by_numbers n (picture taken) ≡ true) ⊎ (IsInJob x taken ⊎ Waits number x taken)
+    stands : (n : ℕ) (x : Substrate) → substrate_numbered n taken.substrates ≡ Some x → not (is_of c.number x) ≡ true → (is_done_by_numbers n (picture f) ≡ true) ⊎ (IsInJob number x f ⊎ Waits number x f) → (is_done_by_numbers n (picture taken) ≡ true) ⊎ (IsInJob number x taken ⊎ Waits number x taken)
     stands n x there away (inl done) = inl (done_on n x there done)
-    stands n x there away (inr (inl its)) = inr (inl its)
-    stands n x there away (inr (inr w)) = inr (inr (record { at = w.at; job = w.job; kept = w.kept; left = w.left; queued = w.queued; joins = join_same x away w.job ∙ w.joins }))
+    stands n x there away (inr (inl its)) = inr (inl (its.0, its.1, first_same x away ∙ its.2))
+    stands n x there away (inr (inr w)) = inr (inr (record { at = w.at; job = w.job; kept = w.kept; left = w.left; first = first_same x away ∙ w.first; queued = w.queued; joins = join_same x away w.job ∙ w.joins }))
 
 -- ---- row 6 of table 7
 

@@ -44,20 +44,15 @@ use Rattle.floor_laws.proofs.JobSays.{any_found}
 use Rattle.floor_laws.proofs.GrowTaken.{by_its_number}
 use Rattle.floor_laws.proofs.ShopAccess.{SameAccess, found_numbered, transfer_access, mode_access, reservation_access, association_access, id_access, map_access}
 use Rattle.floor_laws.proofs.ShopTables.{is_shop_row, MayAccess, may_access, takes_none}
-use Rattle.owed_laws.specs.Owed.{owed_to}
-use Rattle.lot_laws.specs.Lot.{IsInJob, Waits, Executes, AtWork}
+use Rattle.lot_laws.specs.Lot.{is_in_named_slot, first_naming, owed_to, IsInJob, Waits, Executes, AtWork}
 use Rattle.lot_laws.proofs.Standing.{on_base, carried, work-jobs}
+use Rattle.lot_laws.proofs.First.{any_alike, first_shop}
 use Rattle.lot_laws.proofs.AtWork.{at_work_of}
 use Rattle.lot_laws.proofs.Works.{WorksOn, works_execute}
 use Rattle.std.proofs.Math.Bool.{or-false}
 use Rattle.floor_laws.proofs.JobJoins.{use_number, name_there}
 
 -- ---- lists
-
--- tests that agree on each find some alike
-pub any_alike : {A : Type 0} (t u : A → Bool) (xs : List A) → ((x : A) → t x ≡ u x) → list_any t xs ≡ list_any u xs
-any_alike t u [] h = refl
-any_alike t u (x ∷ xs) h = ap (λ (b : Bool). b || list_any t xs) (h x) ∙ ap (λ (b : Bool). u x || b) (any_alike t u xs h)
 
 -- tests of which each follows from the other
 same_test : (a b : Bool) → (a ≡ true → b ≡ true) → (b ≡ true → a ≡ true) → a ≡ b
@@ -109,10 +104,15 @@ module _ (number : ℕ) (counted : ℕ → Bool) (f : ToolFloor) (h : Base f) {b
           any_found (λ (z : Carrier). z.number == x.carrier) (is_carrier_of name x.carrier) cs y q
           (both (y.number == x.carrier) (bytes_eq y.name name) (found_passes (λ (z : Carrier). z.number == x.carrier) cs y q) ((bytes_eq-Decides y.name name).1 its))
 
+  slot_same : (n : ℕ) (x : Substrate) → substrate_numbered n f.substrates ≡ Some x → (j : ProcessJob) → is_in_named_slot j s x ≡ is_in_named_slot j f.shop x
+  slot_same n x found j = any_alike (names_slot_of s x) (names_slot_of f.shop x) j.material (λ m. ap (λ (b : Bool). b && is_slot_named m.slots x.slot) (carrier_same n x found m.carrier))
+
   join_same : (n : ℕ) (x : Substrate) → substrate_numbered n f.substrates ≡ Some x → (j : ProcessJob) → can_join j s x ≡ can_join j f.shop x
-  join_same n x found j =
-      ap (λ (b : Bool). (is_at_source x.states.transport && is_needing x.states.processing) && ((x.job == 0) && b))
-      (any_alike (names_slot_of s x) (names_slot_of f.shop x) j.material (λ m. ap (λ (b : Bool). b && is_slot_named m.slots x.slot) (carrier_same n x found m.carrier)))
+  join_same n x found j = ap (λ (b : Bool). (is_at_source x.states.transport && is_needing x.states.processing) && ((x.job == 0) && b)) (slot_same n x found j)
+
+  -- the first job that names a slot
+  first_same : (n : ℕ) (x : Substrate) → substrate_numbered n f.substrates ≡ Some x → first_naming number (with_shop s f) x ≡ first_naming number f x
+  first_same n x found = first_shop number f x s (slot_same n x found)
 
   -- ---- the material
 
@@ -156,16 +156,15 @@ module _ (number : ℕ) (counted : ℕ → Bool) (f : ToolFloor) (h : Base f) {b
     substrates = record {
       here = λ n kept is left. in_access n kept ((work-jobs number counted f (on_base f h) e).named n kept is left) (e.substrates.here n kept is left);
       finished = e.substrates.finished;
-      in_chamber = e.substrates.in_chamber;
       in_slot = e.substrates.in_slot;
       to_chamber = e.substrates.to_chamber;
       not_given = e.substrates.not_given;
     };
   } where
-    by : (n : ℕ) (x : Substrate) → substrate_numbered n f.substrates ≡ Some x → (is_done n (picture f) ≡ true) ⊎ (IsInJob x f ⊎ Waits number x f) → (is_done n (picture (with_shop s f)) ≡ true) ⊎ (IsInJob x (with_shop s f) ⊎ Waits number x (with_shop s f))
+    by : (n : ℕ) (x : Substrate) → substrate_numbered n f.substrates ≡ Some x → (is_done n (picture f) ≡ true) ⊎ (IsInJob number x f ⊎ Waits number x f) → (is_done n (picture (with_shop s f)) ≡ true) ⊎ (IsInJob number x (with_shop s f) ⊎ Waits number x (with_shop s f))
     by n x found (inl done) = inl done
-    by n x found (inr (inl its)) = inr (inl its)
-    by n x found (inr (inr w)) = inr (inr (record { at = w.at; job = w.job; kept = w.kept; left = w.left; queued = w.queued; joins = join_same n x found w.job ∙ w.joins }))
+    by n x found (inr (inl its)) = inr (inl (its.0, its.1, first_same n x found ∙ its.2))
+    by n x found (inr (inr w)) = inr (inr (record { at = w.at; job = w.job; kept = w.kept; left = w.left; first = first_same n x found ∙ w.first; queued = w.queued; joins = join_same n x found w.job ∙ w.joins }))
 
     in_access : (n : ℕ) → is_one_of (picture f).substrates n ≡ true → (picture f).jobs.names_carrier ((picture f).carrier_of n) ≡ true → (picture f).access ((picture f).carrier_of n) ≤ 1 → (picture (with_shop s f)).access ((picture f).carrier_of n) ≤ 1
     in_access n kept named less =
@@ -212,10 +211,10 @@ module _ (number : ℕ) (counted : ℕ → Bool) (f : ToolFloor) (sound : Sound 
   -- the locations
   location-works : (n row : ℕ) → Keeps (floor_fired (firing 11 n row) f)
   location-works n row = (record { steers = e.steers; here = e.here; members = e.members; stands = λ k x found is. by k x (e.stands k x found is); all = e.all; substrates = e.substrates }, refl, refl) where
-    by : (k : ℕ) (x : Substrate) → (is_done k (picture f) ≡ true) ⊎ (IsInJob x f ⊎ Waits number x f) → (is_done k (picture f) ≡ true) ⊎ (IsInJob x (floor_fired (firing 11 n row) f) ⊎ Waits number x (floor_fired (firing 11 n row) f))
+    by : (k : ℕ) (x : Substrate) → (is_done k (picture f) ≡ true) ⊎ (IsInJob number x f ⊎ Waits number x f) → (is_done k (picture f) ≡ true) ⊎ (IsInJob number x (floor_fired (firing 11 n row) f) ⊎ Waits number x (floor_fired (firing 11 n row) f))
     by k x (inl done) = inl done
     by k x (inr (inl its)) = inr (inl its)
-    by k x (inr (inr w)) = inr (inr (record { at = w.at; job = w.job; kept = w.kept; left = w.left; queued = w.queued; joins = w.joins }))
+    by k x (inr (inr w)) = inr (inr (record { at = w.at; job = w.job; kept = w.kept; left = w.left; first = w.first; queued = w.queued; joins = w.joins }))
 
   by_shop : (table object row : ℕ) → shop.floor_starts (firing table object row) f.shop ≡ true → Leaves f.substrates f.shop (shop.floor_fired (firing table object row) f.shop) → SameAccess f.shop.carriers (shop.floor_fired (firing table object row) f.shop).carriers
       → Keeps (with_shop (shop.floor_fired (firing table object row) f.shop) f)

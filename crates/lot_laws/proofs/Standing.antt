@@ -1,16 +1,17 @@
 -- While a control job is at work, what its process jobs say of substrates stands as it does undisturbed.
-use Rattle.std.proofs.Common.{◌≡◌, ℕ, ◌==◌, Bool, true, false, not, ◌&&◌, ◌||◌, Some, refl, sym, ◌∙◌, ap, ◌⊎◌, inl, inr}
+use Rattle.std.proofs.Common.{◌≡◌, ℕ, ◌==◌, Bool, true, false, not, ◌&&◌, ◌||◌, List, Some, refl, sym, ◌∙◌, ap, ◌⊎◌, inl, inr}
 use Rattle.std.specs.List.{AllByRecursion}
 use Rattle.std.proofs.lemmas.Bool.{true≢false, and_parts, or_parts}
 use Rattle.carrier.specs.declared.carrier.Carrier.{Carrier}
 use Rattle.carrier.specs.Carriers.{carrier_numbered}
 use Rattle.shop_floor.specs.Valid.{IsFloor}
 use Rattle.substrate.specs.Record.{is_at_source, is_needing}
-use Rattle.process_job.specs.Jobs.{job_numbered}
+use Rattle.process_job.specs.Jobs.{job_named, job_numbered}
 use Rattle.process_job.specs.declared.record.JobState.{JobState}
 use Rattle.process_job.specs.declared.record.JobState.TheVariants as state
 use Rattle.process_job.specs.declared.job.ProcessJob.{ProcessJob}
 use Rattle.tool_jobs.specs.Jobs.{Jobs}
+use Rattle.tool_jobs.specs.Together.{AreTogether}
 use Rattle.floor_model.specs.declared.tracked.Substrate.{Substrate}
 use Rattle.floor_model.specs.Floor.{ToolFloor, substrate_numbered, number_of}
 use Rattle.floor_model.specs.Jobs.{job_of, names_carrier, is_any_of_carrier, is_stopping, is_aborting, can_join}
@@ -24,9 +25,11 @@ use Rattle.place_laws.proofs.Holding.{one_found, true_of_found}
 use Rattle.floor_laws.proofs.JobSays.{IsMember, member_tells, any_found}
 use Rattle.owed_laws.specs.Undisturbed.{JobsStand, Undisturbed}
 use Rattle.queue_laws.specs.Started.{is_queued, is_left_in}
-use Rattle.lot_laws.specs.Lot.{is_in_named_slot, IsInJob, Waits, Executes, breaks_off, AtWork}
+use Rattle.lot_laws.specs.Lot.{is_in_named_slot, first_naming, IsInJob, Waits, Executes, breaks_off, AtWork}
 use Rattle.lot_laws.proofs.AtWork.{at_work_of}
 use Rattle.lot_laws.proofs.Naming.{slot_names_carrier}
+use Rattle.lot_laws.proofs.First.{by_name}
+use Rattle.floor_laws.proofs.JobSight.{some_same}
 
 -- ---- states
 
@@ -124,7 +127,7 @@ module _ (number : ℕ) (counted : ℕ → Bool) {before : Jobs} (f : ToolFloor)
     first_so false b q = q
 
     names : (n : ℕ) (s : Substrate) → substrate_numbered n f.substrates ≡ Some s → law.is_finished ((picture f).processing n) ≡ false
-        → (is_done n (picture f) ≡ true) ⊎ (IsInJob s f ⊎ Waits number s f) → (picture f).jobs.names_carrier ((picture f).carrier_of n) ≡ true
+        → (is_done n (picture f) ≡ true) ⊎ (IsInJob number s f ⊎ Waits number s f) → (picture f).jobs.names_carrier ((picture f).carrier_of n) ≡ true
     names n s found left (inl done) = absurd (true≢false (sym (first_so (law.is_finished ((picture f).processing n)) (not (law.is_outside ((picture f).place_of n))) done) ∙ left))
     names n s found left (inr (inl m)) =
         let is = member_job f h n s m.0 found m.1 in
@@ -137,6 +140,25 @@ module _ (number : ℕ) (counted : ℕ → Bool) {before : Jobs} (f : ToolFloor)
   work-undisturbed = record { jobs = work-jobs; substrates = e.substrates }
 
 -- ---- while it executes
+
+-- a counted one that isn't done is in the first job that names its slot, or waits for it
+pub first_takes : (number : ℕ) (counted : ℕ → Bool) (f : ToolFloor) → AreTogether f.jobs → Executes number counted f → (n : ℕ) (s : Substrate) → substrate_numbered n f.substrates ≡ Some s → counted n ≡ true → is_done n (picture f) ≡ false
+    → (j : ProcessJob) → job_numbered j.number f.jobs.process.kept ≡ Some j → first_naming number f s ≡ Some j.id → (job_of s f.jobs ≡ Some j) ⊎ ((is_queued j.states.state ≡ true) × (can_join j f.shop s ≡ true))
+first_takes number counted f t e n s found is left j its first = of (e.stands n s found is) where
+  -- a job that is kept under the same name is that one
+  same : (k : ℕ) (i : ProcessJob) → job_numbered k f.jobs.process.kept ≡ Some i → first_naming number f s ≡ Some i.id → i ≡ j
+  same k i kept f_is =
+      some_same i j
+      (sym (by_name k f.jobs.process.kept i t.process.apart kept)
+      ∙ ap (λ (name : List ℕ). job_named name f.jobs.process.kept) (some_same i.id j.id (sym f_is ∙ first))
+      ∙ by_name j.number f.jobs.process.kept j t.process.apart its)
+
+  of : (is_done n (picture f) ≡ true) ⊎ (IsInJob number s f ⊎ Waits number s f) → (job_of s f.jobs ≡ Some j) ⊎ ((is_queued j.states.state ≡ true) × (can_join j f.shop s ≡ true))
+  of (inl done) = absurd (true≢false (sym done ∙ left))
+  of (inr (inl m)) = inl (m.1 ∙ ap (λ (i : ProcessJob). Some i) (same s.job m.0 m.1 m.2))
+  of (inr (inr w)) =
+      let one = same w.at w.job w.kept w.first in
+      inr (ap (λ (i : ProcessJob). is_queued i.states.state) (sym one) ∙ w.queued, ap (λ (i : ProcessJob). can_join i f.shop s) (sym one) ∙ w.joins)
 
 module _ (number : ℕ) (counted : ℕ → Bool) (f : ToolFloor) (h : IsCarriedOn f) (e : Executes number counted f) where
   pub member_left : (n : ℕ) (s : Substrate) (j : ProcessJob) → substrate_numbered n f.substrates ≡ Some s → job_of s f.jobs ≡ Some j → is_left_in number j.id f.jobs ≡ true

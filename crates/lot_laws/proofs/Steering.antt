@@ -14,7 +14,7 @@ use Rattle.process_job.proofs.Faults.{is_free}
 use Rattle.control_job.specs.Tables.{ControlWant, control_table, states_number}
 use Rattle.control_job.specs.Record as states
 use Rattle.control_job.specs.Record.{is_active}
-use Rattle.control_job.specs.Names.{is_in}
+use Rattle.control_job.specs.Names.{itself, is_in, others}
 use Rattle.control_job.specs.Jobs as control
 use Rattle.control_job.specs.Jobs.{JobStore, owns, is_open, fires_row, fires_at, left_behind, leaves, new_job}
 use Rattle.control_job.specs.declared.job.ControlJob.{ControlJob}
@@ -24,19 +24,20 @@ use Rattle.control_job.specs.declared.record.Ending.{Ending}
 use Rattle.control_job.specs.declared.record.Ending.TheVariants.{No, ByStop, ByAbort}
 use Rattle.control_job.specs.declared.record.ControlJobRecord.{ControlJobRecord}
 use Rattle.control_job.proofs.Keeping.{leaves_number, fires_number}
+use Rattle.records.proofs.Apart.{without_none}
 use Rattle.tool_jobs.specs.Jobs.{Jobs}
 use Rattle.tool_jobs.specs.Wants.{is_ending}
 use Rattle.tool_jobs.specs.Rows.{left_by, ended, control_fired}
 use Rattle.tool_jobs.specs.Together.{AreTogether}
 use Rattle.tool_jobs.specs.Creating.{with_process, with_control, control_fault}
 use Rattle.tool_jobs.proofs.Control.{owns_left}
-use Rattle.queue_laws.specs.Started.{is_queued, has_left, is_left_in, AreStarted}
+use Rattle.queue_laws.specs.Started.{is_queued, is_begun, has_left, is_left_in, AreStarted}
 use Rattle.queue_laws.proofs.Lists.{number_is, changed_on, changed_back, at_number, gone_back, one_more_back, names_differ}
-use Rattle.queue_laws.proofs.Rows.{start_fits, active_open}
+use Rattle.queue_laws.proofs.Rows.{start_fits, keeps_left, active_open}
 use Rattle.queue_laws.proofs.Owners.{same_number, is_same, states_left, owns_on}
 use Rattle.queue_laws.proofs.Steering.{left_owned, owned_left, left_known}
 use Rattle.queue_laws.proofs.Starting as started
-use Rattle.lot_laws.specs.Lot.{is_under_way, breaks_off, WasLeft, IsAtWork}
+use Rattle.lot_laws.specs.Lot.{names_left, is_under_way, breaks_off, WasLeft, IsAtWork}
 
 -- ---- states
 
@@ -194,6 +195,16 @@ module _ (number : ℕ) (before w : Jobs) (t : AreTogether w) (s : AreStarted w)
       subst (λ (o : Option ProcessJob). is_left_in number job (gone_at n o) ≡ true) (sym e)
       (owned_left number job (gone_at n (Some gone)) (leaves gone.id found.job) (there n gone) (owns_on gone.id job found.job other (left_owned number job w found.job found.at left)))
 
+  -- the names of the others are left in their order
+  pub ended_names : (n : ℕ) (gone : ProcessJob) → process.job_numbered n w.process.kept ≡ Some gone → names_left (control.job_numbered number (ended n w).control.jobs) ≡ others gone.id (names_left (control.job_numbered number w.control.jobs))
+  ended_names n gone e =
+      ap (λ (o : Option ProcessJob). names_left (control.job_numbered number (gone_at n o).control.jobs)) e ∙ ap names_left (there n gone) ∙ of (owns gone.id found.job) refl
+      ∙ sym (ap (λ (o : Option ControlJob). others gone.id (names_left o)) found.at)
+    where
+      of : (b : Bool) → owns gone.id found.job ≡ b → (cond b (record found.job { left = others gone.id found.job.left }) found.job).left ≡ others gone.id found.job.left
+      of true q = refl
+      of false q = sym (without_none itself gone.id found.job.left (sym (ap (λ (b : Bool). b && is_in gone.id found.job.left) opened) ∙ q))
+
   pub ended-works : (n : ℕ) → IsAtWork number before (ended n w)
   ended-works n = by_job (process.job_numbered n w.process.kept) refl where
     was_kept : (m : ℕ) (k : ProcessJob) → process.job_numbered m (process.forgotten n w.process).kept ≡ Some k → process.job_numbered m w.process.kept ≡ Some k
@@ -230,6 +241,10 @@ module _ (number : ℕ) (before w : Jobs) (t : AreTogether w) (s : AreStarted w)
   -- what is left in it is kept
   pub left_in_kept : (job : List ℕ) → is_left_in number job w ≡ true → is_known job w.process.kept ≡ true
   left_in_kept job left = left_known w number found.job job t found.at (left_owned number job w found.job found.at left)
+
+  pub name_left_kept : (name : List ℕ) → is_in name (names_left (control.job_numbered number w.control.jobs)) ≡ true → is_known name w.process.kept ≡ true
+  name_left_kept name i =
+      left_known w number found.job name t found.at (ap (λ (b : Bool). b && is_in name found.job.left) opened ∙ subst (λ (o : Option ControlJob). is_in name (names_left o) ≡ true) found.at i)
 
   pub created-works : (spec : JobSpec) → process_fault spec w.process ≡ None → IsAtWork number before (with_process spec w)
   created-works spec e = record {
@@ -314,6 +329,20 @@ module _ (number : ℕ) (before w : Jobs) (t : AreTogether w) (s : AreStarted w)
       changed_on (fires_at number row) number w.control.jobs found.job (fires_number number row) found.at
       ∙ ap (λ (b : Bool). Some (cond b (fires_row row found.job) found.job)) (is_same found.job.number number (number_is number w.control.jobs found.job found.at))
 
+  -- no row changes which names are left, and their order
+  pub row_names : (row m : ℕ) → names_left (control.job_numbered number (row_behind row m).jobs) ≡ names_left (control.job_numbered number w.control.jobs)
+  row_names row m = of (m == number) refl where
+    own : (b : Bool) → (row == 9) ≡ b → cond (b && states.control_starts row found.job.states) [] found.job.left ≡ found.job.left
+    own false q = refl
+    own true q =
+        ap (λ (b : Bool). cond b [] found.job.left)
+        (ap (λ (r : ℕ). states.control_starts r found.job.states) (same_number row 9 q) ∙ keeps_left found.job.states (by_working (λ (x : ControlJobRecord). is_begun x.state ≡ true) refl refl found.job.states found.working))
+
+    of : (b : Bool) → (m == number) ≡ b → names_left (control.job_numbered number (row_behind row m).jobs) ≡ names_left (control.job_numbered number w.control.jobs)
+    of false q = ap names_left (other_there row m q ∙ sym found.at)
+    of true q =
+        ap (λ (k : ℕ). names_left (control.job_numbered number (row_behind row k).jobs)) (same_number m number q) ∙ ap names_left (own_there row) ∙ own (row == 9) refl ∙ sym (ap names_left found.at)
+
   -- row 1, 6 or 7
   module _ (row : ℕ) (one : is_one_of (1 ∷ 6 ∷ 7 ∷ []) row ≡ true) where
     own_working : is_working (fires_row row found.job).states ≡ true
@@ -346,6 +375,9 @@ module _ (number : ℕ) (before w : Jobs) (t : AreTogether w) (s : AreStarted w)
 
     pub added_same : AreSameLeft (with_control name named auto w).control
     added_same job = ap (has_left job) (added_there ∙ sym found.at)
+
+    pub added_names : names_left (control.job_numbered number (with_control name named auto w).control.jobs) ≡ names_left (control.job_numbered number w.control.jobs)
+    added_names = ap names_left (added_there ∙ sym found.at)
 
     pub added-works : IsAtWork number before (with_control name named auto w)
     added-works = control-works (with_control name named auto w).control (working_at number (with_control name named auto w) found.job added_there found.working) alone added_same where

@@ -26,10 +26,11 @@ use Rattle.picture_laws.proofs.Rows.{transport_agrees}
 use Rattle.floor_laws.proofs.JobSight.{none_some, some_same, outside_same}
 use Rattle.floor_laws.proofs.JobSays.{member_tells}
 use Rattle.floor_laws.proofs.JobLists.{none_first}
-use Rattle.owed_laws.specs.Owed.{owed_to}
-use Rattle.owed_laws.proofs.Agreeing.{agree-undisturbed, agree-owed}
-use Rattle.lot_laws.specs.Lot.{is_in_named_slot, IsInJob, Waits, Executes}
+use Rattle.lot_laws.specs.Lot.{is_in_named_slot, first_naming, owed_to, IsInJob, Waits, Executes}
+use Rattle.owed_laws.proofs.Agreeing.{agree-undisturbed}
+use Rattle.lot_laws.proofs.Owing.{agree-owed}
 use Rattle.lot_laws.proofs.Standing.{on_base, joins_tell, undisturbed}
+use Rattle.lot_laws.proofs.First.{first_alone}
 use Rattle.place_laws.proofs.Holding.{found_among}
 use Rattle.robot_moves.specs.declared.module.Module.{Module as ToolModule}
 use Rattle.owed_laws.specs.Undisturbed.{SubstratesStand}
@@ -53,7 +54,7 @@ found_back n change keeps k ss y e = of (k == n) refl where
     at (Some x) g = (x, g, inl (same, sym (some_same (change x) y (sym (ap (option_map change) (sym (ap (λ (i : ℕ). substrate_numbered i ss) same) ∙ g)) ∙ sym (found_there n change keeps ss) ∙ there))))
 
 -- one substrate changes, and maybe the modules
-module _ (number : ℕ) (counted : ℕ → Bool) (f : ToolFloor) (e : Executes number counted f) (n : ℕ) (change : Substrate → Substrate) (keeps : (s : Substrate) → (change s).number ≡ s.number) (jobs : (s : Substrate) → (change s).job ≡ s.job) (ms : List ToolModule) where
+module _ (number : ℕ) (counted : ℕ → Bool) (f : ToolFloor) (e : Executes number counted f) (n : ℕ) (change : Substrate → Substrate) (keeps : (s : Substrate) → (change s).number ≡ s.number) (jobs : (s : Substrate) → (change s).job ≡ s.job) (slots : (s : Substrate) → ((change s).carrier ≡ s.carrier) × ((change s).slot ≡ s.slot)) (ms : List ToolModule) where
   abbrev changed : ToolFloor
   changed = record f { substrates = change_numbered n change f.substrates; modules = ms }
 
@@ -74,15 +75,20 @@ module _ (number : ℕ) (counted : ℕ → Bool) (f : ToolFloor) (e : Executes n
     Case : ℕ → Substrate → Substrate → Type 0
     Case k y x = ((k ≡ n) × (y ≡ change x)) ⊎ (((k == n) ≡ false) × (y ≡ x))
 
-    on : (y x : Substrate) (w : Waits number x f) → can_join w.job f.shop y ≡ true → Waits number y changed
-    on y x w can = record { at = w.at; job = w.job; kept = w.kept; left = w.left; queued = w.queued; joins = can }
+    -- the first is as it was
+    first : (k : ℕ) (y x : Substrate) → Case k y x → first_naming number f y ≡ first_naming number f x
+    first k y x (inl c) = ap (first_naming number f) c.1 ∙ first_alone number f x (change x) (slots x).0 (slots x).1
+    first k y x (inr c) = ap (first_naming number f) c.1
 
-    by : (k : ℕ) (y x : Substrate) → substrate_numbered k f.substrates ≡ Some x → Case k y x → (is_done k (picture f) ≡ true) ⊎ (IsInJob x f ⊎ Waits number x f) → (is_done k (picture changed) ≡ true) ⊎ (IsInJob y changed ⊎ Waits number y changed)
+    on : (k : ℕ) (y x : Substrate) → Case k y x → (w : Waits number x f) → can_join w.job f.shop y ≡ true → Waits number y changed
+    on k y x c w can = record { at = w.at; job = w.job; kept = w.kept; left = w.left; first = first k y x c ∙ w.first; queued = w.queued; joins = can }
+
+    by : (k : ℕ) (y x : Substrate) → substrate_numbered k f.substrates ≡ Some x → Case k y x → (is_done k (picture f) ≡ true) ⊎ (IsInJob number x f ⊎ Waits number x f) → (is_done k (picture changed) ≡ true) ⊎ (IsInJob number y changed ⊎ Waits number y changed)
     by k y x found c (inl is) = inl (done k (found_among number_of k f.substrates x found) is)
-    by k y x found (inl c) (inr (inl its)) = inr (inl (its.0, ap (λ (i : ℕ). job_numbered i f.jobs.process.kept) (ap (λ (z : Substrate). z.job) c.1 ∙ jobs x) ∙ its.1))
-    by k y x found (inr c) (inr (inl its)) = inr (inl (its.0, ap (λ (z : Substrate). job_numbered z.job f.jobs.process.kept) c.1 ∙ its.1))
-    by k y x found (inl c) (inr (inr w)) = inr (inr (on y x w (ap (can_join w.job f.shop) c.1 ∙ waits x (ap (λ (i : ℕ). substrate_numbered i f.substrates) (sym c.0) ∙ found) w)))
-    by k y x found (inr c) (inr (inr w)) = inr (inr (on y x w (ap (can_join w.job f.shop) c.1 ∙ w.joins)))
+    by k y x found (inl c) (inr (inl its)) = inr (inl (its.0, ap (λ (i : ℕ). job_numbered i f.jobs.process.kept) (ap (λ (z : Substrate). z.job) c.1 ∙ jobs x) ∙ its.1, first k y x (inl c) ∙ its.2))
+    by k y x found (inr c) (inr (inl its)) = inr (inl (its.0, ap (λ (z : Substrate). job_numbered z.job f.jobs.process.kept) c.1 ∙ its.1, first k y x (inr c) ∙ its.2))
+    by k y x found (inl c) (inr (inr w)) = inr (inr (on k y x (inl c) w (ap (can_join w.job f.shop) c.1 ∙ waits x (ap (λ (i : ℕ). substrate_numbered i f.substrates) (sym c.0) ∙ found) w)))
+    by k y x found (inr c) (inr (inr w)) = inr (inr (on k y x (inr c) w (ap (can_join w.job f.shop) c.1 ∙ w.joins)))
 
     was : (k : ℕ) (j : ProcessJob) (y x : Substrate) → Case k y x → can_join j f.shop y ≡ true → can_join j f.shop x ≡ true
     was k j y x (inl c) can = takes j x (sym (ap (can_join j f.shop) c.1) ∙ can)
@@ -140,7 +146,7 @@ module _ (number : ℕ) (counted : ℕ → Bool) (f : ToolFloor) (h : Sound f) (
     -- table 12
     pub transport-executes : Executes number counted (with_moved 12 row n f) × (owed_to counted (picture (with_moved 12 row n f)) ≡ owed_to counted (picture f))
     transport-executes = (
-      change-executes number counted f e n (substrate_moves 12 row) (λ x. refl) (λ x. refl) f.modules moved_agrees.jobs.is_member
+      change-executes number counted f e n (substrate_moves 12 row) (λ x. refl) (λ x. refl) (λ x. (refl, refl)) f.modules moved_agrees.jobs.is_member
           (λ k kept done. ap (λ (p : ℕ). law.is_finished p && not (law.is_outside ((picture f).place_of k))) (moved_agrees.processing k kept) ∙ done) waits_on takes
           (agree-undisturbed (picture f) (picture (with_moved 12 row n f)) moved_agrees counted h.valid (undisturbed number counted f (on_base f h.base) e)).substrates,
       agree-owed (picture f) (picture (with_moved 12 row n f)) moved_agrees counted,

@@ -35,13 +35,13 @@ use Rattle.floor_laws.proofs.JobSight.{some_same}
 use Rattle.floor_laws.proofs.JobLists.{job_number_is, fired_there}
 use Rattle.floor_laws.proofs.JobFires.{fired_jobs}
 use Rattle.floor_laws.proofs.JobEnds.{freed_alone}
-use Rattle.owed_laws.specs.Owed.{owed_to}
+use Rattle.lot_laws.specs.Lot.{owed_to}
 use Rattle.queue_laws.specs.Started.{is_queued, is_left_in, AreStarted}
 use Rattle.queue_laws.proofs.Lists.{gone_back}
 use Rattle.queue_laws.proofs.Rows.{stays_queued, start_fits}
 use Rattle.queue_laws.proofs.Owners.{same_number}
 use Rattle.lot_laws.specs.Lot.{InOrder, breaks_off, AtWork, Disturbed, ends, loses, breaks, WorksOrIsDisturbed, is_word}
-use Rattle.lot_laws.proofs.Steering.{Found, is_working, by_working, starts_working, found, passive, out_queued, state-works, other_left, other-works, own_there, own_left, own-works}
+use Rattle.lot_laws.proofs.Steering.{Found, is_working, by_working, starts_working, found, passive, out_queued, state-works, other_left, other-works, own_there, row_names, own_left, own-works}
 use Rattle.lot_laws.proofs.Going.{behind_owed, controls-work}
 use Rattle.lot_laws.proofs.Processes.{state-work, ended-work, fifteen_is, queued_done}
 use Rattle.lot_laws.proofs.Inputs.{created-work, added-work, headed-work}
@@ -221,7 +221,8 @@ module _ (number : ℕ) (counted : ℕ → Bool) (before f : ToolFloor) (h : Sou
       control_other : (m == number) ≡ false → (row : ℕ) → is_one_of control_words row ≡ true → ControlBehind m row
       control_other other row one =
           inl (
-            controls-work number counted f (fired_at m row f.jobs.control) (other_left number before.jobs f.jobs t s e.steers row m other) e
+            controls-work number counted f (fired_at m row f.jobs.control) (other_left number before.jobs f.jobs t s e.steers row m other)
+                (row_names number before.jobs f.jobs t s e.steers row m) e
                 (other-works number before.jobs f.jobs t s e.steers row m d at other still),
             owed,
           )
@@ -244,7 +245,8 @@ module _ (number : ℕ) (counted : ℕ → Bool) (before f : ToolFloor) (h : Sou
         quiet : (r : ℕ) → is_one_of (1 ∷ 6 ∷ 7 ∷ []) r ≡ true → ControlBehind number r
         quiet r o =
             inl (
-              controls-work number counted f (fired_at number r f.jobs.control) (own_left number before.jobs f.jobs t s e.steers r o) e
+              controls-work number counted f (fired_at number r f.jobs.control) (own_left number before.jobs f.jobs t s e.steers r o)
+                  (row_names number before.jobs f.jobs t s e.steers r number) e
                   (own-works number before.jobs f.jobs t s e.steers r o),
               owed,
             )

@@ -24,13 +24,13 @@ use Rattle.floor_moves.proofs.Columns.{MayWork, worked-keeps}
 use Rattle.place_laws.specs.Picture.{picture, of_one, of_job}
 use Rattle.place_laws.specs.Sound.{Sound}
 use Rattle.floor_laws.proofs.EndOpen.{processes_busy}
-use Rattle.owed_laws.specs.Owed.{owed_to}
+use Rattle.lot_laws.specs.Lot.{one_step, owed_to}
 use Rattle.owed_laws.specs.Undisturbed.{Undisturbed}
 use Rattle.owed_laws.proofs.Columns.{worked-stays}
 use Rattle.lot_laws.specs.Lot.{Executes}
 use Rattle.lot_laws.proofs.Standing.{on_base, undisturbed}
 use Rattle.lot_laws.proofs.Done.{state_behind, worked-executes, worked_owed}
-use Rattle.floor_laws.proofs.EndRows.{is_needing}
+use Rattle.floor_laws.proofs.EndRows.{is_needing, may_begin}
 
 module _ (number : ℕ) (counted : ℕ → Bool) (f : ToolFloor) (sound : Sound f) (e : Executes number counted f) (n : ℕ) where
   abbrev Keeps : ToolFloor → Type 0
@@ -66,13 +66,9 @@ module _ (number : ℕ) (counted : ℕ → Bool) (f : ToolFloor) (sound : Sound 
         let unfinished : law.is_finished ((picture f).processing n) ≡ false = ap (λ (o : Option Substrate). law.is_finished (of_one 0 (λ (x : Substrate). processing_number x.states.processing) o)) known ∙ ap (λ (p : Processing). law.is_finished (processing_number p)) needs in
         let its = processes_busy f sound.base sound.valid.commands n s known names in
         let member : (picture f).jobs.is_member n ≡ true = subst (λ (k : ℕ). (picture f).jobs.is_member k ≡ true) (ap named its.3) (sound.valid.members.named its.0 its.1 its.2) in
-        let may : MayWork n 1 (picture f) = record {
-          stays = λ t. absurd (true≢false (sym t ∙ unfinished));
-          picked = λ m p k c i t. refl;
-          processed = λ m c i t. refl;
-        } in
+        let may : MayWork n 1 (picture f) = may_begin f n sound s known needs names in
         let valid : Valid (worked n (state_behind 2 s) (picture f)) = worked-keeps (picture f) n (state_behind 2 s) (subst (λ (k : ℕ). MayWork n k (picture f)) (sym goes) may) sound.valid in
-        let stays = worked-stays counted (picture f) u n (state_behind 2 s) (ap law.is_finished goes ∙ sym unfinished) in
+        let stays = worked-stays (one_step (picture f)) counted (picture f) u n (state_behind 2 s) (ap law.is_finished goes ∙ sym unfinished) in
         (worked-executes number counted f sound.base e n 2 s known member unfinished valid stays.0, worked_owed number counted f sound.base e n 2 s known member unfinished valid stays.0 ∙ stays.1)
 
     ready : (row : ℕ) → substrate_ready processing_number processing_table (λ x. x.processing) (Some s) f ≡ Some row → Keeps (floor_fired (firing 13 n row) f)

@@ -7,7 +7,7 @@ use Rattle.floor_model.specs.declared.tracked.Substrate.{Substrate}
 use Rattle.floor_model.specs.Floor.{ToolFloor}
 use Rattle.floor_moves.specs.Floor.{Command, busy, is_done}
 use Rattle.place_laws.specs.Picture.{picture, module_of}
-use Rattle.owed_laws.specs.Owed.{owed_to}
+use Rattle.lot_laws.specs.Lot.{owed_to}
 use Rattle.queue_laws.specs.Steers.{Steers}
 use Rattle.lot_laws.specs.Lot.{IsInJob, Waits, Executes, AtWork}
 use Rattle.lot_laws.proofs.AtWork.{executes_by}
@@ -33,7 +33,6 @@ modules-work number counted f e ms back = (
     substrates = record {
       here = e.substrates.here;
       finished = e.substrates.finished;
-      in_chamber = e.substrates.in_chamber;
       in_slot = e.substrates.in_slot;
       to_chamber = λ m n c d g t. e.substrates.to_chamber m n c d (back m d g) t;
       not_given = e.substrates.not_given;
@@ -42,7 +41,7 @@ modules-work number counted f e ms back = (
   refl,
   refl,
 ) where
-  by : (n : ℕ) (x : Substrate) → (is_done n (picture f) ≡ true) ⊎ (IsInJob x f ⊎ Waits number x f) → (is_done n (picture f) ≡ true) ⊎ (IsInJob x (record f { modules = ms }) ⊎ Waits number x (record f { modules = ms }))
+  by : (n : ℕ) (x : Substrate) → (is_done n (picture f) ≡ true) ⊎ (IsInJob number x f ⊎ Waits number x f) → (is_done n (picture f) ≡ true) ⊎ (IsInJob number x (record f { modules = ms }) ⊎ Waits number x (record f { modules = ms }))
   by n x (inl done) = inl done
   by n x (inr (inl its)) = inr (inl its)
-  by n x (inr (inr w)) = inr (inr (record { at = w.at; job = w.job; kept = w.kept; left = w.left; queued = w.queued; joins = w.joins }))
+  by n x (inr (inr w)) = inr (inr (record { at = w.at; job = w.job; kept = w.kept; left = w.left; first = w.first; queued = w.queued; joins = w.joins }))

@@ -1,12 +1,12 @@
 -- A control job that executes undisturbed on the floor of the tool: its substrates (after SEMI E40, SEMI E90 and SEMI E94; this tool's
 -- profile, tables 14 and 15, and moves). Which substrates are counted is settled as it starts.
-use Rattle.std.specs.Prelude.{◌≡◌, ◌⊎◌, ℕ, ◌+◌, ◌==◌, ◌≤◌, Bool, true, false, ◌&&◌, ◌||◌, [], ◌∷◌, Option, Some, None}
+use Rattle.std.specs.Prelude.{◌≡◌, ◌⊎◌, ℕ, ◌+◌, ◌==◌, ◌≤◌, Bool, true, false, ◌&&◌, ◌||◌, List, [], ◌∷◌, find, Option, Some, None, is_some}
 use Rattle.std.specs.List.{list_any}
 use Rattle.gem_tables.specs.Table.{firing, is_one_of}
 use Rattle.gem_tables.specs.declared.firing.Firing.{Firing}
 use Rattle.shop_floor.specs.Floor.{Floor}
 use Rattle.substrate.specs.Record.{is_at_source, is_needing}
-use Rattle.process_job.specs.Jobs.{job_numbered}
+use Rattle.process_job.specs.Jobs.{JobBook, job_named, job_numbered}
 use Rattle.process_job.specs.declared.job.ProcessJob.{ProcessJob}
 use Rattle.process_job.specs.declared.record.JobState.{JobState}
 use Rattle.control_job.specs.Jobs.{job_numbered as control_numbered}
@@ -21,33 +21,82 @@ use Rattle.floor_model.specs.Floor.{ToolFloor, substrate_numbered}
 use Rattle.floor_model.specs.Jobs.{names_slot_of, can_join, is_here, job_of, is_stopping, is_aborting}
 use Rattle.floor_model.specs.Substrates.{reaches_verified}
 use Rattle.floor_model.specs.Machines.{floor_fired}
+use Rattle.floor_moves.specs.Floor as law
 use Rattle.floor_moves.specs.Floor.{is_done}
 use Rattle.place_laws.specs.Picture.{picture, of_substrate}
 use Rattle.place_laws.specs.Processed.{AreProcessed}
 use Rattle.place_laws.specs.Sound.{Sound}
-use Rattle.owed_laws.specs.Owed.{owed_to}
+use Rattle.owed_laws.specs.Owed as owed
 use Rattle.owed_laws.specs.Undisturbed.{SubstratesStand, AreUnaligned}
 use Rattle.queue_laws.specs.Started.{is_queued, is_left_in, AreStarted}
 use Rattle.queue_laws.specs.Steers.{Steers, is_executing, goes_on}
 
--- ---- as it starts
+-- ---- what is owed
+
+-- The route that is planned for a substrate: one step, as each recipe has, in any chamber of the tool. How many Dones it takes is the same in
+-- each.
+abbrev pub one_step : law.Floor → ℕ → List (List ℕ)
+one_step g n = g.chambers ∷ []
+
+-- the Dones that are still to come for all those that are kept and counted
+abbrev pub owed_to : (ℕ → Bool) → law.Floor → ℕ
+owed_to counted g = owed.owed_to (one_step g) counted g
+
+-- ---- which process job takes a substrate
 
 -- the material of a process job names the slot of a substrate
 abbrev pub is_in_named_slot : ProcessJob → Floor → Substrate → Bool
 is_in_named_slot j shop s = list_any (names_slot_of shop s) j.material
 
--- a process job that is left in the control job of a number names its slot
-abbrev pub wants_slot : ℕ → ToolFloor → Substrate → ProcessJob → Bool
-wants_slot number f s j = is_left_in number j.id f.jobs && is_in_named_slot j f.shop s
+-- that of a process job that was looked for
+abbrev pub is_in_found_slot : Option ProcessJob → Floor → Substrate → Bool
+is_in_found_slot None shop s = false
+is_in_found_slot (Some j) shop s = is_in_named_slot j shop s
 
--- a substrate is AT SOURCE and NEEDS PROCESSING, and such a process job names its slot
+-- that of the process job of a name
+abbrev pub names_slot : ToolFloor → Substrate → List ℕ → Bool
+names_slot f s name = is_in_found_slot (job_named name f.jobs.process.kept) f.shop s
+
+-- the names of the process jobs that are left in a control job, in the order in which it named them
+abbrev pub names_left : Option ControlJob → List (List ℕ)
+names_left None = []
+names_left (Some c) = c.left
+
+-- the name of the first process job that is left in the control job of a number, in this order, that names the slot of a substrate
+abbrev pub first_naming : ℕ → ToolFloor → Substrate → Option (List ℕ)
+first_naming number f s = find (names_slot f s) (names_left (control_numbered number f.jobs.control.jobs))
+
+-- the processing steps of the recipe of a process job: one
+abbrev pub steps_by : JobBook → ProcessJob → ℕ
+steps_by b j = 1
+
+-- those of a process job that was looked for
+abbrev pub steps_found : JobBook → Option ProcessJob → ℕ
+steps_found b None = 0
+steps_found b (Some j) = steps_by b j
+
+-- those of the process job whose name was found
+abbrev pub steps_named : JobBook → Option (List ℕ) → ℕ
+steps_named b None = 0
+steps_named b (Some name) = steps_found b (job_named name b.kept)
+
+-- ---- as it starts
+
+-- a substrate is AT SOURCE and NEEDS PROCESSING, and a process job that is left in the control job of a number names its slot
 abbrev pub is_wanted : ℕ → ToolFloor → Substrate → Bool
-is_wanted number f s =
-    (is_at_source s.states.transport && is_needing s.states.processing) && list_any (wants_slot number f s) f.jobs.process.kept
+is_wanted number f s = (is_at_source s.states.transport && is_needing s.states.processing) && is_some (first_naming number f s)
 
 -- the substrates that are counted of the control job of a number, as it starts: those that are so
 abbrev pub counted_of : ℕ → ToolFloor → ℕ → Bool
 counted_of number f n = of_substrate false (is_wanted number f) f n
+
+-- the processing steps that a substrate takes: those of the first process job that names its slot
+abbrev pub steps_of : ℕ → ToolFloor → ℕ → ℕ
+steps_of number f n = of_substrate 0 (λ s. steps_named f.jobs.process (first_naming number f s)) f n
+
+-- the commands that all counted substrates take, which are as many Dones
+abbrev pub total : ℕ → ToolFloor → ℕ
+total number f = owed.commands_of (steps_of number f) (counted_of number f) (picture f)
 
 -- the material of each process job that is left in it is here
 abbrev pub IsMaterialHere : ℕ → ToolFloor → Type 0
@@ -63,28 +112,30 @@ AreInKeptJobs f = (n : ℕ) (s : Substrate) → substrate_numbered n f.substrate
 
 -- ---- while it executes
 
--- a substrate is in a process job
-abbrev pub IsInJob : Substrate → ToolFloor → Type 0
-IsInJob s f = (j : ProcessJob) × (job_of s f.jobs ≡ Some j)
+-- a substrate is in a process job, the first that is left in the control job of a number and names its slot
+abbrev pub IsInJob : ℕ → Substrate → ToolFloor → Type 0
+IsInJob number s f = (j : ProcessJob) × (job_of s f.jobs ≡ Some j) × (first_naming number f s ≡ Some j.id)
 
--- a substrate waits for a process job that is left in the control job of a number and is QUEUED, and can join it
+-- a substrate waits for a process job, the first that is left in the control job of a number and names its slot, which is QUEUED; and
+-- can join it
 pub record Waits (number : ℕ) (s : Substrate) (f : ToolFloor) : Type 0 where
   pub at : ℕ
   pub job : ProcessJob
   pub kept : job_numbered at f.jobs.process.kept ≡ Some job
   pub left : is_left_in number job.id f.jobs ≡ true
+  pub first : first_naming number f s ≡ Some job.id
   pub queued : is_queued job.states.state ≡ true
   pub joins : can_join job f.shop s ≡ true
 
 -- The control job of a number executes, and nothing disturbed it: the material of the process jobs that are left in it is here; each
--- substrate in a job is counted; each that is counted is finished and in its slot or without a place, or it is in a job, or it waits
--- for one; what such a job can still take is counted; and the substrates stand as they do undisturbed.
+-- substrate in a job is counted; each that is counted is finished and in its slot or without a place, or it is in the first job that is
+-- left and names its slot, or it waits for that; what such a job can still take is counted; and the substrates stand as they do undisturbed.
 pub record Executes (number : ℕ) (counted : ℕ → Bool) (f : ToolFloor) : Type 0 where
   pub steers : Steers number f.jobs
   pub here : IsMaterialHere number f
   pub members : (n : ℕ) → (picture f).jobs.is_member n ≡ true → counted n ≡ true
   pub stands : (n : ℕ) (s : Substrate) → substrate_numbered n f.substrates ≡ Some s → counted n ≡ true
-      → (is_done n (picture f) ≡ true) ⊎ (IsInJob s f ⊎ Waits number s f)
+      → (is_done n (picture f) ≡ true) ⊎ (IsInJob number s f ⊎ Waits number s f)
   pub all : (n k : ℕ) (s : Substrate) (j : ProcessJob) → substrate_numbered n f.substrates ≡ Some s
       → job_numbered k f.jobs.process.kept ≡ Some j → is_left_in number j.id f.jobs ≡ true → can_join j f.shop s ≡ true → counted n ≡ true
   pub substrates : SubstratesStand counted (picture f)
@@ -159,7 +210,7 @@ pub record AtWork (number : ℕ) (counted : ℕ → Bool) (before : Jobs) (f : T
   pub here : IsMaterialHere number f
   pub members : (n : ℕ) → (picture f).jobs.is_member n ≡ true → counted n ≡ true
   pub stands : (n : ℕ) (s : Substrate) → substrate_numbered n f.substrates ≡ Some s → counted n ≡ true
-      → (is_done n (picture f) ≡ true) ⊎ (IsInJob s f ⊎ Waits number s f)
+      → (is_done n (picture f) ≡ true) ⊎ (IsInJob number s f ⊎ Waits number s f)
   pub all : (n k : ℕ) (s : Substrate) (j : ProcessJob) → substrate_numbered n f.substrates ≡ Some s
       → job_numbered k f.jobs.process.kept ≡ Some j → is_left_in number j.id f.jobs ≡ true → can_join j f.shop s ≡ true → counted n ≡ true
   pub substrates : SubstratesStand counted (picture f)

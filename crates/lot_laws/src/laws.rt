@@ -1,7 +1,7 @@
 //! Laws of a control job that executes undisturbed, for proofs to cite. Each function is empty: what it ensures holds of the definitions.
 
-ghost use Rattle.std.specs.Prelude.{◌≡◌, ◌≤◌, ℕ, Bool, true, false, List, [], ◌∷◌, Option, Some, None};
-ghost use Rattle.std.specs.List.{AllByRecursion};
+ghost use Rattle.std.specs.Prelude.{◌≡◌, ◌≤◌, ◌⊎◌, ℕ, Bool, true, false, List, [], ◌∷◌, ◌++◌, Option, Some, None};
+ghost use Rattle.std.specs.List.{AllByRecursion, list_any};
 ghost use Rattle.gem_tables.specs.declared.firing.Firing.{Firing};
 ghost use Rattle.tool_tasks.specs.declared.task.Command.{Command};
 ghost use Rattle.tool_tasks.specs.declared.task.Task.TheVariants as task;
@@ -17,7 +17,7 @@ ghost use Rattle.shop_floor.specs.Machines as shop;
 ghost use Rattle.shop_floor.specs.Requests.{came, carrier_code, carrier_written};
 ghost use Rattle.shop_floor.specs.Rows.{owner};
 ghost use Rattle.floor_model.specs.Signals.{done_row, done_rows, closing_rows, lost_rows};
-ghost use Rattle.floor_moves.specs.Floor.{chamber};
+ghost use Rattle.floor_moves.specs.Floor.{chamber, is_done};
 ghost use Rattle.floor_moves.specs.Valid.{IsUnnamed};
 ghost use Rattle.gem_tables.specs.Table.{firing, is_one_of};
 ghost use Rattle.process_job.specs.Jobs.{job_numbered as process_numbered};
@@ -30,21 +30,22 @@ ghost use Rattle.tool_jobs.specs.Rows.{control_starts, control_ready};
 ghost use Rattle.tool_jobs.specs.Creating.{with_process, with_control, control_fault};
 ghost use Rattle.tool_jobs.specs.Together.{AreTogether};
 ghost use Rattle.tool_tasks.specs.declared.recipes.Recipe.{Recipe};
-ghost use Rattle.floor_model.specs.Floor.{ToolFloor, opening, with_shop, with_jobs, fetched};
-ghost use Rattle.floor_model.specs.Jobs.{is_first_here, is_any_of_carrier};
+ghost use Rattle.floor_model.specs.declared.tracked.Substrate.{Substrate};
+ghost use Rattle.floor_model.specs.Floor.{ToolFloor, opening, with_shop, with_jobs, fetched, substrate_numbered};
+ghost use Rattle.floor_model.specs.Jobs.{can_join, job_of, is_first_here, is_any_of_carrier};
 ghost use Rattle.floor_model.specs.Machines.{floor_starts, floor_fired, floor_least};
 ghost use Rattle.place_laws.specs.Picture.{picture};
 ghost use Rattle.place_laws.specs.Sound.{Sound};
 ghost use Rattle.floor_laws.specs.Rows.{is_common, listed};
-ghost use Rattle.owed_laws.specs.Owed.{owed_to, commands_of};
 ghost use Rattle.owed_laws.specs.Undisturbed.{AreUnaligned, Undisturbed};
-ghost use Rattle.queue_laws.specs.Started.{AreStarted};
+ghost use Rattle.queue_laws.specs.Started.{is_queued, AreStarted};
 ghost use Rattle.queue_laws.specs.Steers.{AreAutomatic, disturbs_process, disturbs_control, is_completion};
-ghost use Rattle.lot_laws.specs.Lot.{counted_of, IsMaterialHere, AreInKeptJobs, Executes, GoesOnOrCompletes, TakesOneOff};
+ghost use Rattle.lot_laws.specs.Lot.{names_slot, names_left, counted_of, owed_to, total, IsMaterialHere, AreInKeptJobs, Executes, GoesOnOrCompletes, TakesOneOff};
 ghost use Rattle.lot_laws.specs.Lot.{InOrder, IsCalmBetween, WorksOrIsDisturbed, is_word};
 
 /// As a control job starts by row 4 or 5 of table 15, where each process job that is left in it starts by itself and its material is
-/// here, it executes undisturbed, and a Done is owed for each command of each substrate that is counted.
+/// here, it executes undisturbed, and a Done is owed for each command of each substrate that is counted: for each step of the first of
+/// these process jobs that names its slot, and for its way there and back.
 pub fn a_control_job_starts_with_its_material_in_place()
     ensures executes { (number row : ℕ) (f : ToolFloor) (c : ControlJob) → Sound f → AreTogether f.jobs → AreStarted f.jobs
         → AreUnaligned (picture f) → AreInKeptJobs f → control_numbered number f.jobs.control.jobs ≡ Some c
@@ -54,12 +55,23 @@ pub fn a_control_job_starts_with_its_material_in_place()
         → AreUnaligned (picture f) → AreInKeptJobs f → control_numbered number f.jobs.control.jobs ≡ Some c
         → control_starts row (Some c) (is_first_here number f) f.jobs ≡ true → is_one_of (4 ∷ 5 ∷ []) row ≡ true
         → AreAutomatic number f.jobs → IsMaterialHere number f
-        → owed_to (counted_of number f) (picture (floor_fired (firing 15 number row) f)) ≡ commands_of (counted_of number f) (picture f) }
+        → owed_to (counted_of number f) (picture (floor_fired (firing 15 number row) f)) ≡ total number f }
 {}
 
 /// While it executes, its substrates stand undisturbed.
 pub fn its_substrates_stand_undisturbed()
     ensures { (number : ℕ) (counted : ℕ → Bool) (f : ToolFloor) → Sound f → Executes number counted f → Undisturbed counted (picture f) }
+{}
+
+/// While it executes, each counted substrate that isn't done is in the first of the process jobs that are left in it, in the order in which
+/// it named them, that names the slot, or that job is QUEUED and can take it.
+pub fn the_first_process_job_that_names_its_slot_takes_a_substrate()
+    ensures { (number : ℕ) (counted : ℕ → Bool) (f : ToolFloor) (n : ℕ) (s : Substrate) (before behind : List (List ℕ)) (j : ProcessJob)
+        → AreTogether f.jobs → Executes number counted f → substrate_numbered n f.substrates ≡ Some s → counted n ≡ true
+        → is_done n (picture f) ≡ false → process_numbered j.number f.jobs.process.kept ≡ Some j
+        → names_left (control_numbered number f.jobs.control.jobs) ≡ before ++ j.id ∷ behind → names_slot f s j.id ≡ true
+        → list_any (names_slot f s) before ≡ false
+        → (job_of s f.jobs ≡ Some j) ⊎ ((is_queued j.states.state ≡ true) × (can_join j f.shop s ≡ true)) }
 {}
 
 /// It executes on behind each row of table 14 that starts and doesn't disturb it, and as much is owed.

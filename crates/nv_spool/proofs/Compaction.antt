@@ -7,7 +7,11 @@ use Rattle.std.proofs.lemmas.List.Elements.{All-head, All-tail}
 use Rattle.spool.specs.declared.note.Note.{Note}
 use Rattle.spool.specs.Full.{fitted}
 use Rattle.nv_spool.specs.Writing.{next, pushes}
-use Rattle.outside.specs.Disk.{HasAt, Torn, TornSince, WrittenAt, Follows, Only, Each}
+use Rattle.outside.specs.Disk.{HasAt, Torn, TornSince, WrittenAt, Elapses, Follows, Only, Each}
+use Rattle.spool_format.specs.Runs.{WritesOnly}
+use Rattle.spool_format.proofs.Moments.{weaker}
+use Rattle.nv_spool.proofs.Holding.{Holds, then_call}
+use Rattle.nv_spool.proofs.Pushes.{pushes_size}
 use Rattle.spool_format.proofs.Pieces.{stays, joined, right_part, one_byte}
 use Rattle.spool_format.specs.Format.{Sizes, IsSize, Record, Fits, Stand, replayed, Shows, StandsFor, Settled, half_start, head_bytes, spelled}
 
@@ -23,10 +27,10 @@ replayed_pushes capacity front (note ∷ notes) few =
     ap (λ (ns : List Note). replayed capacity ns (pushes notes)) (kept_all capacity (front ++ note ∷ []) (omega arith))
     ∙ replayed_pushes capacity (front ++ note ∷ []) notes (omega arith) ∙ append_assoc front (note ∷ []) notes
 
-pub stand_pushes : (notes : List Note) → All Fits notes → Stand (pushes notes)
-stand_pushes [] fits = tt
-stand_pushes (note ∷ notes) fits =
-    (omega arith, All-head Fits note notes fits, stand_pushes notes (All-tail Fits note notes fits))
+pub stand_pushes : (capacity : ℕ) (front notes : List Note) → All Fits notes → Stand capacity front (pushes notes)
+stand_pushes capacity front [] fits = tt
+stand_pushes capacity front (note ∷ notes) fits =
+    (omega arith, All-head Fits note notes fits, refl, stand_pushes capacity (fitted false capacity (front ++ note ∷ [])) notes (All-tail Fits note notes fits))
 
 -- ---- the two halves
 
@@ -110,7 +114,7 @@ module _ (s : Sizes) (selector end : ℕ) (notes : List Note) (size : IsSize s) 
     selector = x;
     records = pushes notes;
     shows = shows;
-    stand = stand_pushes notes fits;
+    stand = stand_pushes s.capacity [] notes fits;
     notes_are = sym (replayed_pushes s.capacity [] notes (omega arith));
   }
 
@@ -151,8 +155,36 @@ module _ (s : Sizes) (selector end : ℕ) (notes : List Note) (size : IsSize s) 
     pub done : (read synced : List ℕ) (images : List ℕ → Type 0) → Both s selector settled.records (pushes notes) read → WrittenAt 0 (next selector ∷ []) read synced → Only synced images → Settled s (next selector) (length (spelled (pushes notes))) notes images
     done read synced images both written only = record {
       records = pushes notes;
-      stand = stand_pushes notes fits;
+      stand = stand_pushes s.capacity [] notes fits;
       notes_are = sym (replayed_pushes s.capacity [] notes (omega arith));
       end_is = refl;
       shows = λ c left. subst (Shows s (next selector) (pushes notes)) (sym (only c left)) (selector_written s selector settled.records (pushes notes) read synced written.torn both written.there);
     }
+
+-- ---- a compaction, call by call
+
+-- the other half has room
+pub room : (s : Sizes) (notes : List Note) → IsSize s → All Fits notes → length notes ≤ s.capacity → length (spelled (pushes notes)) < s.half
+room s notes size fits few = omega (arith, pushes_size notes fits, size.enough, few)
+
+module _ {D : Type 0} (leaves : D → List ℕ → Type 0) (moment : D → ℕ) (left_since : D → ℕ → List ℕ → Type 0) (s : Sizes) (selector end : ℕ) (notes : List Note) (size : IsSize s) (fits : All Fits notes) (few : length notes ≤ s.capacity) (old : D) (settled : Settled s selector end notes (leaves old)) where
+  -- its pushes are written
+  pub half_written : (at : ℕ) (new : D) → at ≡ half_start s (next selector) → WritesOnly leaves moment left_since at (length (spelled (pushes notes) ++ 0 ∷ [])) old new → Holds leaves moment left_since (StandsFor s notes) old new
+  half_written at new start writes =
+      let n = length (spelled (pushes notes) ++ 0 ∷ []) in
+      let only = subst (λ (k : ℕ). WritesOnly leaves moment left_since k n old new) start writes in
+      let torn = torn_stands s selector end notes size fits few (leaves old) settled n (omega (arith, length-append (spelled (pushes notes)) (0 ∷ []), room s notes size fits few)) in
+      record {
+        run = weaker moment left_since old new (TornSince (half_start s (next selector)) n (leaves old)) (StandsFor s notes) only.any_moment torn;
+        now = λ f left. torn f (only.follows f left);
+      }
+
+  -- they are on the disk
+  pub both_halves : (at : ℕ) (read synced : List ℕ) (images : List ℕ → Type 0) → at ≡ half_start s (next selector) → leaves old read → WrittenAt at (spelled (pushes notes) ++ 0 ∷ []) read synced → Only synced images → Each images (Both s selector settled.records (pushes notes))
+  both_halves at read synced images start now written only =
+      both_there s selector end notes size fits few (leaves old) settled read synced images (room s notes size fits few) now (subst (λ (k : ℕ). WrittenAt k (spelled (pushes notes) ++ 0 ∷ []) read synced) start written) only
+
+  -- the selector is written
+  pub selector_named : (mid new : D) → Holds leaves moment left_since (StandsFor s notes) old mid → Each (leaves mid) (Both s selector settled.records (pushes notes)) → Elapses (moment mid) (moment new) (left_since mid) (left_since new) (leaves new) → Follows (Torn 0 1) (leaves mid) (leaves new) → Holds leaves moment left_since (StandsFor s notes) old new
+  selector_named mid new so_far both time follows =
+      then_call leaves moment left_since (StandsFor s notes) old mid new so_far time (after_selector s selector end notes size fits few (leaves old) settled (leaves mid) (leaves new) both follows)

@@ -1,5 +1,6 @@
 mod Changes
 mod Compaction
 mod Gates
+mod Holding
 mod Prefixes
 mod Pushes

@@ -1,5 +1,5 @@
 -- Some of a run's changes.
-use Rattle.std.proofs.Common.{◌≡◌, inl, inr, ℕ, ◌+◌, List, [], ◌∷◌, length, take, subst, arith}
+use Rattle.std.proofs.Common.{inl, inr, ℕ, List, [], ◌∷◌, take}
 use Rattle.std.specs.Prelude.{zero, suc}
 use Rattle.spool.specs.declared.note.Note.{Note}
 use Rattle.spool_format.specs.declared.change.Change.{Change}

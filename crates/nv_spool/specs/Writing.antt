@@ -1,9 +1,9 @@
 -- What the calls of a durable spool write, and what a crash leaves meanwhile (this tool's profile, durable spool).
-use Rattle.std.specs.Prelude.{◌⊎◌, ℕ, ◌+◌, ◌%◌, ◌<◌, false, List, [], ◌∷◌, ◌++◌, map}
+use Rattle.std.specs.Prelude.{◌≡◌, ◌⊎◌, ℕ, ◌+◌, ◌%◌, ◌<◌, true, false, List, [], ◌∷◌, ◌++◌, map}
 use Rattle.spool.specs.declared.note.Note.{Note}
 use Rattle.spool_format.specs.declared.change.Change.{Change}
 use Rattle.spool_format.specs.declared.change.Change.TheVariants.{Push}
-use Rattle.spool_format.specs.Format.{Sizes, Record, Shows, StandsFor, changed}
+use Rattle.spool_format.specs.Format.{Sizes, Record, Shows, StandsFor, CanStand, changed, may_follow}
 
 -- a half as a compaction writes it: one push per note
 abbrev pub push_of : Note → Record
@@ -29,6 +29,11 @@ BeforeOrAfter s before after bytes = StandsFor s before bytes ⊎ StandsFor s af
 abbrev pub made : ℕ → List Change → List Note → List Note
 made capacity [] notes = notes
 made capacity (change ∷ changes) notes = made capacity changes (changed capacity change notes)
+
+-- each of these changes can stand, and may be made of the notes that those before it give
+abbrev pub CanMake : ℕ → List Note → List Change → Type 0
+CanMake capacity notes [] = Unit {0}
+CanMake capacity notes (change ∷ changes) = CanStand change × (may_follow change notes ≡ true) × CanMake capacity (changed capacity change notes) changes
 
 -- the notes after some of these changes, of which none is left out
 abbrev pub AfterSome : Sizes → List Note → List Change → List ℕ → Type 0

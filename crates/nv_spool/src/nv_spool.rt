@@ -7,16 +7,19 @@ ghost use Rattle.nv_spool.specs.Writing.{BeforeOrAfter};
 ghost use Rattle.outside.specs.Counts.{Rose};
 ghost use Rattle.outside.specs.Disk.{Each};
 ghost use Rattle.spool_format.specs.Faults.{Told};
+ghost use Rattle.spool_format.specs.ByNumber.{may_put_back, placed};
 ghost use Rattle.spool_format.specs.Format.{Fits, IsSize, changed, StandsFor};
 ghost use Rattle.spool_format.specs.Runs.{LeavesOnly, Quiet};
 ghost use Rattle.spool_format.specs.Unread.{IsUnread};
-ghost use Rattle.spool_format.specs.declared.change.Change.TheVariants.{Push, Take};
+ghost use Rattle.spool_format.specs.declared.change.Change.TheVariants.{Push, PutBack, Take};
 
 use crate::formatting::format_disk;
 use crate::putting::put_change;
 use outside::{Disk, Failed};
 use spool::{Note, Pushed};
-use spool_format::{NoteQueue, NvFault, Place, push_text, read_spool, take_text};
+use spool_format::{
+    ByBlocks, NoteQueue, NvFault, Place, push_text, put_back_text, read_spool, take_text,
+};
 use std::alloc::{AllocError, Global};
 use std::marker::Model;
 
@@ -67,17 +70,19 @@ impl<D: Disk + Drop> NvSpool<D> {
         ensures tells_err { IfErr result (λ e. D.tells e.0 ≡ D.tells disk) }
         ensures opened { IfOk result (λ nv. nv.is_closed ≡ false) }
         ensures fault { IfErr result (λ e. Told (Rose (D.faults disk) (D.faults e.0)) (λ place. D.tells disk ≡ true → IsUnread (D.reads disk) place) e.1) }
+        ensures faults_stay { IfOk result (λ nv. D.faults disk ≤ D.faults nv.disk) }
+        ensures faults_stay_err { IfErr result (λ e. D.faults disk ≤ D.faults e.0) }
     {
-        let mut disk = disk;
-        match read_spool(alloc, &mut disk) {
+        let mut blocks = ByBlocks::new(disk);
+        match read_spool(alloc, &mut blocks) {
             Ok((queue, place)) => Ok(NvSpool {
                 alloc,
-                disk,
+                disk: blocks.into_disk(),
                 queue,
                 place,
                 is_closed: false,
             }),
-            Err(fault) => Err((disk, fault)),
+            Err(fault) => Err((blocks.into_disk(), fault)),
         }
     }
 
@@ -177,5 +182,51 @@ impl<D: Disk + Drop> NvSpool<D> {
             return Err(NvFault::Disk);
         }
         Ok(self.queue.push(note, overwrite))
+    }
+
+    /// A note is put back to its place by number, before the first that has a greater one. Where the spool is full, one of its notes and this
+    /// is dropped: the one of the least number with `overwrite`, else the one of the greatest. Its text has at most 87,000 bytes, the
+    /// numbers of the notes rise, and its own is another: `notes().may_put_back(number)` tells that.
+    pub fn put_back(&mut self, note: Note, overwrite: bool) -> Result<Pushed, NvFault>
+        requires text { length note.text ≤ 87000 }
+        requires place { may_put_back note.number self.old.notes ≡ true }
+        // What it did.
+        ensures put_back { OnOk result (self.new.notes ≡ changed self.old.sizes.capacity (PutBack overwrite note) self.old.notes) }
+        ensures told { IfOk result (λ told. told ≡ told_as overwrite (lost overwrite self.old.sizes.capacity (placed note self.old.notes))) }
+        ensures sizes { self.new.sizes ≡ self.old.sizes }
+        // From now on each image stands for the notes.
+        ensures acknowledged { OnOk result (D.tells self.old.disk ≡ true → Each (D.leaves self.new.disk) (StandsFor self.new.sizes self.new.notes)) }
+        // A crash at any moment of the call leaves the notes from before it or those behind it.
+        ensures any_moment { self.old.is_closed ≡ false → D.tells self.old.disk ≡ true
+            → LeavesOnly D.moment D.left_since self.old.disk self.new.disk (BeforeOrAfter self.old.sizes self.old.notes (changed self.old.sizes.capacity (PutBack overwrite note) self.old.notes)) }
+        // When each fault comes, and what it leaves.
+        ensures fault { self.old.is_closed ≡ false → IfErr result (Told (Rose (D.faults self.old.disk) (D.faults self.new.disk)) (λ place. ⊥)) }
+        ensures disk { IsErrOf result NvFault.Disk → Rose (D.faults self.old.disk) (D.faults self.new.disk) }
+        ensures closed { IsErrOf result NvFault.Closed ↔ (self.old.is_closed ≡ true) }
+        ensures closes { IsErrOf result NvFault.Disk → self.new.is_closed ≡ true }
+        ensures opened { OnOk result (self.new.is_closed ≡ false) }
+        ensures tells { D.tells self.new.disk ≡ D.tells self.old.disk }
+        ensures faults_stay { D.faults self.old.disk ≤ D.faults self.new.disk }
+        ensures untouched { IsErrOf result NvFault.Closed → self.new ≡ self.old }
+        ensures no_memory { IsErrOf result NvFault.NoMemory → self.new ≡ self.old }
+    {
+        if self.is_closed {
+            return Err(NvFault::Closed);
+        }
+        let Ok(text) = put_back_text(self.alloc, &note, overwrite) else {
+            return Err(NvFault::NoMemory);
+        };
+        if put_change(
+            &mut self.disk,
+            &mut self.place,
+            &self.queue,
+            text.as_slice(),
+        )
+        .is_err()
+        {
+            self.is_closed = true;
+            return Err(NvFault::Disk);
+        }
+        Ok(self.queue.put_back(note, overwrite))
     }
 }

@@ -4,7 +4,7 @@ ghost use Rattle.std.specs.Prelude.{true, ◌≡◌, ◌++◌, ◌∷◌, [], �
 ghost use Rattle.std.specs.List.{All};
 ghost use Rattle.nv_spool.specs.Writing.{BeforeOrAfter};
 ghost use Rattle.outside.specs.Counts.{Rose};
-ghost use Rattle.spool_format.specs.Format.{Fits, CanStand, changed, body, IsSize, Settled, StandsFor};
+ghost use Rattle.spool_format.specs.Format.{Fits, CanStand, may_follow, changed, body, IsSize, Settled, StandsFor};
 ghost use Rattle.spool_format.specs.Place.{sizes, IsAt};
 ghost use Rattle.spool_format.specs.Runs.{LeavesOnly};
 ghost use Rattle.spool_format.specs.declared.change.Change.{Change};
@@ -61,10 +61,10 @@ pub(crate) fn put_change<D: Disk>(
     requires text { length text.now ≤ 87020 }
     ensures half { place.new.half ≡ place.old.half }
     ensures end { place.new.end < place.new.half }
-    ensures settled { OnOk result (D.tells disk.old ≡ true → (change : Change) → text.now ≡ body change ++ 0 ∷ [] → CanStand change
+    ensures settled { OnOk result (D.tells disk.old ≡ true → (change : Change) → text.now ≡ body change ++ 0 ∷ [] → CanStand change → may_follow change queue.now.notes ≡ true
         → IsAt queue.now.capacity place.old queue.now.notes (D.leaves disk.old)
         → IsAt queue.now.capacity place.new (changed queue.now.capacity change queue.now.notes) (D.leaves disk.new)) }
-    ensures any_moment { D.tells disk.old ≡ true → (change : Change) → text.now ≡ body change ++ 0 ∷ [] → CanStand change
+    ensures any_moment { D.tells disk.old ≡ true → (change : Change) → text.now ≡ body change ++ 0 ∷ [] → CanStand change → may_follow change queue.now.notes ≡ true
         → IsAt queue.now.capacity place.old queue.now.notes (D.leaves disk.old)
         → LeavesOnly D.moment D.left_since disk.old disk.new (BeforeOrAfter (sizes queue.now.capacity place.old) queue.now.notes (changed queue.now.capacity change queue.now.notes)) }
     ensures tells { D.tells disk.new ≡ D.tells disk.old }

@@ -1,12 +1,11 @@
 //! Several changes, one after another.
 
 ghost use Rattle.std.specs.Prelude.{true, false, ◌≡◌, ◌↔◌, ◌+◌, ◌≤◌, ℕ, List, length, take, IfOk, OnOk, IfErr, OnErr, IsErrOf};
-ghost use Rattle.std.specs.List.{AllByRecursion};
-ghost use Rattle.nv_spool.specs.Writing.{BeforeOrAfter, AfterSome, made};
+ghost use Rattle.nv_spool.specs.Writing.{BeforeOrAfter, AfterSome, CanMake, made};
 ghost use Rattle.outside.specs.Counts.{Rose};
 ghost use Rattle.outside.specs.Disk.{Each};
 ghost use Rattle.spool_format.specs.Faults.{Told};
-ghost use Rattle.spool_format.specs.Format.{CanStand, StandsFor, changed};
+ghost use Rattle.spool_format.specs.Format.{CanStand, StandsFor, changed, may_follow};
 ghost use Rattle.spool_format.specs.Runs.{LeavesOnly};
 
 use crate::nv_spool::NvSpool;
@@ -14,9 +13,10 @@ use outside::Disk;
 use spool_format::{Change, NvFault};
 
 impl<D: Disk + Drop> NvSpool<D> {
-    /// Makes a change, as `push` and `take` do.
+    /// Makes a change, as `push`, `put_back` and `take` do.
     pub fn make(&mut self, change: Change) -> Result<(), NvFault>
-        requires { CanStand change }
+        requires can { CanStand change }
+        requires may { may_follow change self.old.notes ≡ true }
         ensures after { OnOk result (self.new.notes ≡ changed self.old.sizes.capacity change self.old.notes) }
         ensures sizes { self.new.sizes ≡ self.old.sizes }
         ensures acknowledged { OnOk result (D.tells self.old.disk ≡ true → Each (D.leaves self.new.disk) (StandsFor self.new.sizes self.new.notes)) }
@@ -33,6 +33,10 @@ impl<D: Disk + Drop> NvSpool<D> {
                 Ok(_) => Ok(()),
                 Err(fault) => Err(fault),
             },
+            Change::PutBack(overwrite, note) => match self.put_back(note, overwrite) {
+                Ok(_) => Ok(()),
+                Err(fault) => Err(fault),
+            },
             Change::Take => match self.take() {
                 Ok(_) => Ok(()),
                 Err(fault) => Err(fault),
@@ -44,7 +48,7 @@ impl<D: Disk + Drop> NvSpool<D> {
     /// on that each image has, a crash at any moment, within a call or between two, leaves the notes after some of these changes, of which
     /// none is left out: of those that were answered `Ok`, and at most the one in work.
     pub fn make_all(&mut self, changes: Vec<Change>) -> Result<(), (usize, NvFault)>
-        requires changes { AllByRecursion CanStand changes.items }
+        requires changes { CanMake self.old.sizes.capacity self.old.notes changes.items }
         requires opened { self.old.is_closed ≡ false }
         requires stands { D.tells self.old.disk ≡ true → Each (D.leaves self.old.disk) (StandsFor self.old.sizes self.old.notes) }
         ensures after { OnOk result (self.new.notes ≡ made self.old.sizes.capacity changes.items self.old.notes) }

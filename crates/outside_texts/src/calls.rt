@@ -16,7 +16,7 @@ use sim_modules::SimModule;
 use std::alloc::{AllocError, Global};
 use test_lines::{Subject, first_word, nothing, number, text_of, words};
 use tool_events::Signal;
-use tool_tasks::{Command, Recipe, RecipeChambers, Task};
+use tool_tasks::{Command, Recipe, RecipeChambers, Route, Task};
 use tool_texts::{Line, LineFault, read_line};
 
 /// A module, and process jobs.
@@ -31,7 +31,7 @@ impl Calls {
     pub fn new(alloc: Global) -> Result<Calls, AllocError> {
         let recipe = Recipe {
             name: text_of("R1"),
-            chambers: RecipeChambers::to(1),
+            route: Route::of(RecipeChambers::to(1)),
         };
         Ok(Calls {
             module: SimModule::without_failures(alloc, ModuleId(1)),

@@ -1,31 +1,27 @@
 -- Effects of rows while nobody disturbs: what stands stays, and as much is owed.
-use Rattle.std.proofs.Common.{◌≡◌, ◌≤◌, ℕ, ◌+◌, Bool, false, refl, sym, ap, ◌∙◌, ◌⊎◌, inl, inr, arith}
-use Rattle.floor_moves.specs.Floor.{chamber, Task, place, Command, busy, JobView, Floor, set, is_finished}
+use Rattle.std.proofs.Common.{◌≡◌, ◌≤◌, ℕ, Bool, false, List, refl, sym, ap, ◌∙◌, ◌⊎◌, inl, inr, arith}
+use Rattle.floor_moves.specs.Floor.{chamber, Task, place, Command, busy, Floor, set, is_finished}
 use Rattle.floor_moves.specs.Effects.{transported, worked, issued}
-use Rattle.floor_moves.specs.Carriers.{created, arrived, verified, with_jobs}
+use Rattle.floor_moves.specs.Carriers.{created, arrived, verified}
 use Rattle.floor_moves.proofs.Maps.{set_tells, set_both, set_view}
-use Rattle.owed_laws.specs.Owed.{owed_at, owed, owed_to}
-use Rattle.owed_laws.specs.Undisturbed.{JobsStand, Undisturbed}
+use Rattle.owed_laws.specs.Owed.{owed_by, owed, owed_to}
+use Rattle.owed_laws.specs.Undisturbed.{Undisturbed}
 use Rattle.owed_laws.proofs.Totals.{sum_same}
 
 -- it is undisturbed, and as much is owed
-abbrev pub Stays : (ℕ → Bool) → Floor → Floor → Type 0
-Stays counted g h = Undisturbed counted h × (owed_to counted h ≡ owed_to counted g)
+abbrev pub Stays : (ℕ → List (List ℕ)) → (ℕ → Bool) → Floor → Floor → Type 0
+Stays planned counted g h = Undisturbed counted h × (owed_to planned counted h ≡ owed_to planned counted g)
 
--- it is undisturbed, and one less is owed
-abbrev pub OneLess : (ℕ → Bool) → Floor → Floor → Type 0
-OneLess counted g h = Undisturbed counted h × (owed_to counted h + 1 ≡ owed_to counted g)
-
-module _ (counted : ℕ → Bool) (g : Floor) (u : Undisturbed counted g) where
+module _ (planned : ℕ → List (List ℕ)) (counted : ℕ → Bool) (g : Floor) (u : Undisturbed counted g) where
   -- ---- table 12
 
-  pub transported-stays : (n state : ℕ) → Stays counted g (transported n state g)
+  pub transported-stays : (n state : ℕ) → Stays planned counted g (transported n state g)
   transported-stays n state = (record { jobs = u.jobs; substrates = u.substrates }, refl)
 
   -- ---- table 13
 
   -- a substrate goes to a state that is finished where the old one is
-  pub worked-stays : (n state : ℕ) → is_finished state ≡ is_finished (g.processing n) → Stays counted g (worked n state g)
+  pub worked-stays : (n state : ℕ) → is_finished state ≡ is_finished (g.processing n) → Stays planned counted g (worked n state g)
   worked-stays n state same = (
     record {
       jobs = record {
@@ -37,13 +33,12 @@ module _ (counted : ℕ → Bool) (g : Floor) (u : Undisturbed counted g) where
       substrates = record {
         here = λ k kept is f. u.substrates.here k kept is (sym (alike k) ∙ f);
         finished = λ k kept is f. u.substrates.finished k kept is (sym (alike k) ∙ f);
-        in_chamber = u.substrates.in_chamber;
         in_slot = λ k p q at f. u.substrates.in_slot k p q at (sym (alike k) ∙ f);
         to_chamber = λ m k c d e t. alike k ∙ u.substrates.to_chamber m k c d e t;
         not_given = u.substrates.not_given;
       };
     },
-    sum_same counted (owed (worked n state g)) (owed g) g.substrates (λ k _ _. ap (λ (b : Bool). owed_at (g.place_of k) b (g.is_aligned k)) (alike k)),
+    sum_same counted (owed planned (worked n state g)) (owed planned g) g.substrates (λ k _ _. ap (λ (b : Bool). owed_by (planned k) (g.steps_of k) (g.place_of k) b (g.is_aligned k)) (alike k)),
   )
     where
       alike : (k : ℕ) → is_finished (set n state g.processing k) ≡ is_finished (g.processing k)
@@ -52,14 +47,13 @@ module _ (counted : ℕ → Bool) (g : Floor) (u : Undisturbed counted g) where
   -- ---- table 16
 
   -- a command is issued; a Place to a chamber names an unfinished substrate
-  pub issued-stays : (m : ℕ) (task : Task) → ((n c : ℕ) → task ≡ place n (chamber c) → is_finished (g.processing n) ≡ false) → Stays counted g (issued m task g)
+  pub issued-stays : (m : ℕ) (task : Task) → ((n c : ℕ) → task ≡ place n (chamber c) → is_finished (g.processing n) ≡ false) → Stays planned counted g (issued m task g)
   issued-stays m task fits = (
     record {
       jobs = u.jobs;
       substrates = record {
         here = u.substrates.here;
         finished = u.substrates.finished;
-        in_chamber = u.substrates.in_chamber;
         in_slot = u.substrates.in_slot;
         to_chamber = λ k n c d e t. by k n c d t (set_tells m k (busy (record { number = g.next_command; task = task })) g.equipment (busy d) e);
         not_given = u.substrates.not_given;
@@ -77,14 +71,13 @@ module _ (counted : ℕ → Bool) (g : Floor) (u : Undisturbed counted g) where
 
   -- ---- carriers
 
-  pub created-stays : (c : ℕ) → Stays counted g (created c g)
+  pub created-stays : (c : ℕ) → Stays planned counted g (created c g)
   created-stays c = (
     record {
       jobs = u.jobs;
       substrates = record {
         here = λ n kept is f. set_both c (g.carrier_of n) 0 g.access (λ a. a ≤ 1) (λ same. omega arith) (λ other. u.substrates.here n kept is f);
         finished = u.substrates.finished;
-        in_chamber = u.substrates.in_chamber;
         in_slot = u.substrates.in_slot;
         to_chamber = u.substrates.to_chamber;
         not_given = u.substrates.not_given;
@@ -93,13 +86,8 @@ module _ (counted : ℕ → Bool) (g : Floor) (u : Undisturbed counted g) where
     refl,
   )
 
-  pub arrived-stays : (c p : ℕ) → Stays counted g (arrived c p g)
+  pub arrived-stays : (c p : ℕ) → Stays planned counted g (arrived c p g)
   arrived-stays c p = (record { jobs = u.jobs; substrates = u.substrates }, refl)
 
-  pub verified-stays : (c : ℕ) → Stays counted g (verified c g)
+  pub verified-stays : (c : ℕ) → Stays planned counted g (verified c g)
   verified-stays c = (record { jobs = u.jobs; substrates = u.substrates }, refl)
-
-  -- ---- process jobs
-
-  pub jobs_say-stays : (view : JobView) → JobsStand counted (with_jobs view g) → Stays counted g (with_jobs view g)
-  jobs_say-stays view right = (record { jobs = right; substrates = u.substrates }, refl)

@@ -1,6 +1,6 @@
 pub mod Totals
+pub mod Agreeing
+pub mod Beginning
 pub mod Columns
 pub mod Decreasing
 pub mod Carrying
-pub mod Beginning
-pub mod Agreeing

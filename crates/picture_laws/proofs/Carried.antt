@@ -11,7 +11,7 @@ use Rattle.floor_moves.specs.Floor.{idle}
 use Rattle.floor_moves.specs.Effects.{moved as moved_by_numbers}
 use Rattle.floor_moves.specs.Agree.{Agree}
 use Rattle.place_laws.specs.Picture.{picture, loc_of, module_of}
-use Rattle.picture_laws.proofs.JobViews.{alike_same}
+use Rattle.floor_moves.proofs.Agreeing.{alike_same}
 use Rattle.picture_laws.proofs.Closing.{modules_behind}
 use Rattle.picture_laws.proofs.Moving.{moved_among, same_module}
 
@@ -25,6 +25,7 @@ moving_agrees m change x sub to found f places known here is = record {
   place_of = λ k. moved_among sub to 0 f.places.given f.places.held found places.named_apart places.numbered known k;
   processing = λ k _. refl;
   is_aligned = λ k _. refl;
+  steps_of = λ k _ _. refl;
   carriers = refl;
   present_at = λ c. refl;
   is_verified = λ c _. refl;

@@ -10,7 +10,8 @@ use Rattle.floor_moves.specs.Floor.{Module as ByNumber, set}
 use Rattle.floor_moves.specs.Effects.{turned}
 use Rattle.floor_moves.specs.Agree.{Agree}
 use Rattle.place_laws.specs.Picture.{picture, module_of}
-use Rattle.picture_laws.proofs.JobViews.{alike_same, substrates_alike}
+use Rattle.floor_moves.proofs.Agreeing.{alike_same}
+use Rattle.picture_laws.proofs.JobViews.{substrates_alike}
 use Rattle.picture_laws.proofs.Columns.{numbers_same, says_same, says_new}
 use Rattle.picture_laws.proofs.Issuing.{changed_there, changed_else}
 
@@ -35,6 +36,7 @@ module _ (m : ℕ) (change : Module → Module) (x : Module) (state : ByNumber) 
     place_of = λ k. refl;
     processing = λ k _. refl;
     is_aligned = λ k _. refl;
+    steps_of = λ k _ _. refl;
     carriers = refl;
     present_at = λ c. refl;
     is_verified = λ c _. refl;
@@ -58,6 +60,7 @@ module _ (m : ℕ) (change : Module → Module) (x : Module) (state : ByNumber) 
     place_of = λ k. refl;
     processing = λ k _. says_same n aligned (λ s. refl) 0 _ (λ s. refl) k f.substrates;
     is_aligned = λ k _. says_new n aligned (λ s. refl) false _ s k f.substrates found;
+    steps_of = λ k _ _. refl;
     carriers = refl;
     present_at = λ c. refl;
     is_verified = λ c _. refl;

@@ -33,6 +33,7 @@ module _ (f : ToolFloor) where
         place_of = λ k. refl;
         processing = λ k _. refl;
         is_aligned = λ k _. refl;
+        steps_of = λ k _ _. refl;
         carriers = numbers_on carrier_number f.shop.carriers new;
         present_at = λ c. says_on carrier_number None where_present f.shop.carriers new _ refl none c;
         is_verified = λ c _. says_on carrier_number false (λ (x : Carrier). is_map_verified x.states.map) f.shop.carriers new _ refl none c;
@@ -66,6 +67,7 @@ module _ (f : ToolFloor) where
     place_of = λ k. refl;
     processing = λ k _. refl;
     is_aligned = λ k _. refl;
+    steps_of = λ k _ _. refl;
     carriers = numbers_named name (came_to port is_read slots) (λ c. refl) f.shop.carriers;
     present_at = λ c. says_named name (came_to port is_read slots) (λ x. refl) None where_present d c f.shop.carriers valid.apart named own;
     is_verified = λ c _. says_named_same name (came_to port is_read slots) (λ x. refl) false (λ (x : Carrier). is_map_verified x.states.map) (λ x. refl) c f.shop.carriers;
@@ -91,6 +93,7 @@ module _ (f : ToolFloor) where
     place_of = λ k. refl;
     processing = λ k _. refl;
     is_aligned = λ k _. refl;
+    steps_of = λ k _ _. refl;
     carriers = numbers_kept n (carriers.fires_row 9 row) (λ x. refl) f.shop.carriers;
     present_at = λ k. says_kept n (carriers.fires_row 9 row) (λ x. refl) None where_present (λ x. refl) k f.shop.carriers;
     is_verified = λ k _. says_changed n (carriers.fires_row 9 row) (λ x. refl) false (λ (x : Carrier). is_map_verified x.states.map) c k f.shop.carriers there ∙ ap (λ (b : Bool). if k == n then b else of_one false (λ (x : Carrier). is_map_verified x.states.map) (carrier_numbered k f.shop.carriers)) becomes;
@@ -116,6 +119,7 @@ module _ (f : ToolFloor) where
     place_of = λ k. refl;
     processing = λ k _. refl;
     is_aligned = λ k _. refl;
+    steps_of = λ k _ _. refl;
     carriers = numbers_kept n (carriers.fires_row 10 row) (λ x. refl) f.shop.carriers;
     present_at = λ k. says_kept n (carriers.fires_row 10 row) (λ x. refl) None where_present (λ x. refl) k f.shop.carriers;
     is_verified = λ k _. says_kept n (carriers.fires_row 10 row) (λ x. refl) false (λ (x : Carrier). is_map_verified x.states.map) (λ x. refl) k f.shop.carriers;

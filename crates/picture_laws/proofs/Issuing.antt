@@ -12,7 +12,7 @@ use Rattle.floor_moves.specs.Floor.{busy}
 use Rattle.floor_moves.specs.Effects.{issued}
 use Rattle.floor_moves.specs.Agree.{Agree}
 use Rattle.place_laws.specs.Picture.{picture, module_of, task_of}
-use Rattle.picture_laws.proofs.JobViews.{alike_same}
+use Rattle.floor_moves.proofs.Agreeing.{alike_same}
 
 module _ {A : Type 0} (change : A → A) where
   updated_there : (n : ℕ) (xs : List A) → slice_get (update_at n change xs) n ≡ option_map change (slice_get xs n)
@@ -48,6 +48,7 @@ module _ (m : ℕ) (move : Move) (f : ToolFloor) where
     place_of = λ k. refl;
     processing = λ k _. refl;
     is_aligned = λ k _. refl;
+    steps_of = λ k _ _. refl;
     carriers = refl;
     present_at = λ c. refl;
     is_verified = λ c _. refl;

@@ -8,21 +8,8 @@ use Rattle.tool_jobs.specs.Jobs.{Jobs}
 use Rattle.floor_model.specs.declared.tracked.Substrate.{Substrate}
 use Rattle.floor_model.specs.Floor.{substrate_numbered}
 use Rattle.floor_model.specs.Jobs.{is_any_of_carrier, is_processing, is_stopping, is_aborting}
-use Rattle.floor_moves.specs.Floor.{JobView}
 use Rattle.floor_moves.specs.Agree.{SayAlike}
 use Rattle.place_laws.specs.Picture.{of_one, of_job, is_complete, chambers_in, job_view}
-
-pub alike_same : (at : ℕ → Option ℕ) (v : JobView) → SayAlike at v v
-alike_same at v = record {
-  is_member = λ n. refl;
-  may_start = λ n. refl;
-  is_stopping = λ n. refl;
-  is_aborting = λ n. refl;
-  is_complete = λ n. refl;
-  chambers_of = λ n. refl;
-  names_carrier = λ c p here. refl;
-  is_marked = λ c p here. refl;
-}
 
 -- what is said of substrates by their jobs alone is the same
 abbrev pub SameJobs : List Substrate → List Substrate → Type 1
@@ -40,7 +27,7 @@ module _ (at : ℕ → Option ℕ) (w : Jobs) where
     is_stopping = λ n. same Bool false (said_of false (λ j. is_stopping j.states.state)) n;
     is_aborting = λ n. same Bool false (said_of false (λ j. is_aborting j.states.state)) n;
     is_complete = λ n. same Bool false (said_of false (λ j. is_complete j.states.state)) n;
-    chambers_of = λ n. same (List ℕ) [] (said_of [] (λ j. chambers_in (recipe_named j.recipe w.process.recipes))) n;
+    route_of = λ n. ap (λ (step : List ℕ). step ∷ []) (same (List ℕ) [] (said_of [] (λ j. chambers_in (recipe_named j.recipe w.process.recipes))) n);
     names_carrier = λ c p here. refl;
     is_marked = λ c p here. refl;
   }
@@ -56,7 +43,7 @@ module _ (at : ℕ → Option ℕ) (w : Jobs) where
     is_stopping = λ n. refl;
     is_aborting = λ n. refl;
     is_complete = λ n. refl;
-    chambers_of = λ n. refl;
+    route_of = λ n. refl;
     names_carrier = λ c p here. names (λ name. is_any_of_carrier name w) c p here;
     is_marked = λ c p here. marks c p here;
   }

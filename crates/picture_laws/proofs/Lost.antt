@@ -47,6 +47,7 @@ module _ (n : ℕ) (s : Substrate) (found : Registered) (f : ToolFloor) where
         place_of = λ k. taken_among s.sub 0 f.places.given f.places.held found places.named_apart places.numbered there k ∙ ap (λ (m : ℕ). if k == m then None else among f.places.held k) is;
         processing = λ k e. a.processing k e ∙ ap (λ (x : ℕ). if k == n then x else of_one 0 (λ (t : Substrate). processing_number t.states.processing) (substrate_numbered k f.substrates)) (is_lost s.states.processing);
         is_aligned = a.is_aligned;
+        steps_of = λ k _ _. refl;
         carriers = refl;
         present_at = λ c. refl;
         is_verified = λ c _. refl;

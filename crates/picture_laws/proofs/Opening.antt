@@ -32,6 +32,7 @@ module _ (ports chambers : ℕ) (recipes : List Recipe) where
     place_of = λ n. refl;
     processing = λ n e. refl;
     is_aligned = λ n e. refl;
+    steps_of = λ k _ _. refl;
     carriers = refl;
     present_at = λ c. refl;
     is_verified = λ c e. refl;
@@ -42,7 +43,7 @@ module _ (ports chambers : ℕ) (recipes : List Recipe) where
       is_stopping = λ n. refl;
       is_aborting = λ n. refl;
       is_complete = λ n. refl;
-      chambers_of = λ n. refl;
+      route_of = λ n. refl;
       names_carrier = λ c p here. refl;
       is_marked = λ c p here. refl;
     };

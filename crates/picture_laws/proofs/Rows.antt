@@ -29,6 +29,7 @@ module _ (f : ToolFloor) (n row : ℕ) where
     place_of = λ k. refl;
     processing = λ k _. says_same n (substrate_moves 12 row) (λ s. refl) 0 _ (λ s. refl) k f.substrates;
     is_aligned = λ k _. says_same n (substrate_moves 12 row) (λ s. refl) false _ (λ s. refl) k f.substrates;
+    steps_of = λ k _ _. refl;
     carriers = refl;
     present_at = λ c. refl;
     is_verified = λ c _. refl;
@@ -53,6 +54,7 @@ module _ (f : ToolFloor) (n row : ℕ) where
     place_of = λ k. refl;
     processing = λ k _. says_new n (substrate_moves 13 row) (λ s. refl) 0 _ s k f.substrates found;
     is_aligned = λ k _. says_same n (substrate_moves 13 row) (λ s. refl) false _ (λ s. refl) k f.substrates;
+    steps_of = λ k _ _. refl;
     carriers = refl;
     present_at = λ c. refl;
     is_verified = λ c _. refl;

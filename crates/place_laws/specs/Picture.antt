@@ -107,7 +107,7 @@ numbers_from n (suc count) = n ∷ numbers_from (n + 1) count
 
 -- ---- jobs
 
--- the chambers of a recipe, where there is one
+-- the chambers of the first step of a recipe, where there is one
 abbrev pub chambers_in : Option Recipe → List ℕ
 chambers_in o = chamber_list (chambers_of o)
 
@@ -120,7 +120,7 @@ abbrev pub is_complete : JobState → Bool
 is_complete Complete = true
 is_complete _ = false
 
--- what process jobs say of these substrates and carriers: those that are kept and known
+-- What process jobs say of these substrates and carriers: those that are kept and known. The route of each recipe has one step.
 abbrev pub job_view : List Substrate → List Carrier → Jobs → JobView
 job_view ss cs w = record {
   is_member = λ n. of_one false (of_job false (λ j. true) w) (substrate_numbered n ss);
@@ -128,7 +128,7 @@ job_view ss cs w = record {
   is_stopping = λ n. of_one false (of_job false (λ j. is_stopping j.states.state) w) (substrate_numbered n ss);
   is_aborting = λ n. of_one false (of_job false (λ j. is_aborting j.states.state) w) (substrate_numbered n ss);
   is_complete = λ n. of_one false (of_job false (λ j. is_complete j.states.state) w) (substrate_numbered n ss);
-  chambers_of = λ n. of_one [] (of_job [] (λ j. chambers_in (recipe_named j.recipe w.process.recipes)) w) (substrate_numbered n ss);
+  route_of = λ n. of_one [] (of_job [] (λ j. chambers_in (recipe_named j.recipe w.process.recipes)) w) (substrate_numbered n ss) ∷ [];
   names_carrier = λ c. of_one false (λ (x : Carrier). is_any_of_carrier x.name w) (carrier_numbered c cs);
   is_marked = λ c. of_one false (λ (x : Carrier). x.stopped) (carrier_numbered c cs);
 }
@@ -146,6 +146,8 @@ picture f = record {
   transport = of_substrate 0 (λ s. transport_number s.states.transport) f;
   processing = of_substrate 0 (λ s. processing_number s.states.processing) f;
   is_aligned = of_substrate false (λ s. s.aligned) f;
+  -- the substrates of the tool count no steps yet: that of an unfinished one is to come, and of the others it isn't asked
+  steps_of = λ n. 0;
   carriers = map shop.number_of f.shop.carriers;
   present_at = of_carrier None where_present f;
   is_verified = of_carrier false (λ c. is_map_verified c.states.map) f;

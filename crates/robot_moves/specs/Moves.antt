@@ -76,12 +76,13 @@ may_leave (Chamber c) modules v = is_idle (module_at (chamber_module c) modules)
 abbrev pub is_useful : List PlaceView → List Module → PlaceView → Bool
 is_useful views modules v = may_leave v.at modules v && is_some (free_target views modules v)
 
--- the stage of a location: 0 a slot, 1 the aligner, 2 a chamber; nothing is picked from the arm
+-- the stage of a location: 0 a slot, 1 the aligner, and over them the chambers by their numbers, from 1 on; nothing is picked from the
+-- arm
 abbrev pub stage_of : LocId → ℕ
 stage_of (Slot p k) = 0
 stage_of Aligner = 1
 stage_of Arm = 0
-stage_of (Chamber c) = 2
+stage_of (Chamber c) = 1 + c
 
 -- one goes first of two: its stage is greater, or it is the same, and the number of registration no greater
 abbrev pub goes_first : PlaceView → PlaceView → Bool

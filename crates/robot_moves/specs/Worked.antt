@@ -42,6 +42,14 @@ in_chamber c = record first_wafer { sub = codes "CAR01.03"; number = 3; at = loc
 abbrev pub finished_in : ℕ → PlaceView
 finished_in c = record (in_chamber c) { finished = true }
 
+-- the first, in a chamber, finished
+abbrev pub first_finished_in : ℕ → PlaceView
+first_finished_in c = record first_wafer { at = loc.Chamber c; aligned = true; finished = true }
+
+-- the second, in its slot as it was registered
+abbrev pub second_wafer : PlaceView
+second_wafer = record at_aligner { at = slot 2; aligned = false }
+
 -- a module that is Busy with some command
 abbrev pub busy : Module
 busy = Busy (record { number = record { 0 = 9 }; task = task.Align (codes "CAR01.09") }) true

@@ -16,7 +16,6 @@ mod whereabouts;
 mod worked;
 
 pub use laws::{a_command_ends_once, a_module_goes_by_its_table, the_pick_is_the_best};
-pub use listed::better;
 pub use module::{Module, ModuleState};
 pub use modules::Modules;
 pub use planner::Planner;

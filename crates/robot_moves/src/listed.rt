@@ -76,9 +76,9 @@ fn best_pick(places: &[PlaceView], modules: &Modules) -> Option<PlaceView>
     best
 }
 
-/// Of the best pick so far, where there is one, and the next, the one that goes first: that of the greater stage, then that of the
-/// lesser number of registration; of equal numbers the former.
-pub fn better(best: Option<PlaceView>, v: &PlaceView) -> PlaceView
+// Of the best pick so far, where there is one, and the next, the one that goes first: that of the greater stage, then that of the
+// lesser number of registration; of equal numbers the former.
+fn better(best: Option<PlaceView>, v: &PlaceView) -> PlaceView
     ensures { result ≡ better best v.now }
 {
     match best {
@@ -96,12 +96,13 @@ fn goes_first(v: &PlaceView, w: &PlaceView) -> bool
     other < stage || (other == stage && v.number <= w.number)
 }
 
-fn stage_of(at: LocId) -> u8
+// The stage of a location. A chamber's number is a byte, so that its stage may be one more than a byte holds.
+fn stage_of(at: LocId) -> u16
     ensures { result ≡ stage_of at }
 {
     match at {
         LocId::Slot(..) | LocId::Arm => 0,
         LocId::Aligner => 1,
-        LocId::Chamber(_) => 2,
+        LocId::Chamber(c) => 1 + c as u16,
     }
 }

@@ -28,9 +28,9 @@ impl Planner {
     /// of table 16, by the number of the module. `None` exactly where none is ready.
     ///
     /// The robot, when Idle, places what its arm holds, if its target is free; with an empty arm it does the useful pick of the
-    /// greatest stage (chamber, aligner, slot), then the least number of registration. The aligner, when Idle, aligns what it
-    /// holds, if that is unfinished and isn't aligned. A chamber, when Idle, processes what it holds, if that is NEEDS
-    /// PROCESSING. Takes no memory.
+    /// greatest stage, then the least number of registration. Stages rise from the slots over the aligner to the chambers, and
+    /// of these by their numbers. The aligner, when Idle, aligns what it holds, if that is unfinished and isn't aligned. A
+    /// chamber, when Idle, processes what it holds, if that is NEEDS PROCESSING. Takes no memory.
     pub fn next(&self, places: &[PlaceView], modules: &Modules) -> Option<Move>
         ensures least { result ≡ next_move places.now modules.now }
         ensures finds { result ≡ None → (number : ℕ) → module_move number places.now modules.now ≡ None }

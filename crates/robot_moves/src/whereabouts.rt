@@ -24,7 +24,7 @@ pub trait Whereabouts {
 
 /// Tells who is where, and whom the robot is best to pick.
 pub trait Picks: Whereabouts {
-    /// The useful pick of the greatest stage (chamber, aligner, slot), then of the least number of registration, with these
+    /// The useful pick of the greatest stage (chambers by number, aligner, slot), then of the least number of registration, with these
     /// modules. `None` exactly where no pick is useful.
     fn best_pick(&self, modules: &Modules) -> Option<PlaceView>
         ensures { result ≡ best_pick (Self.told self.now) modules.now };

@@ -5,7 +5,7 @@ ghost use Rattle.gem_ids.specs.declared.numbers.LocId.TheVariants as loc;
 ghost use Rattle.tool_tasks.specs.declared.task.Task.TheVariants as task;
 ghost use Rattle.robot_moves.specs.Modules.{first_modules};
 ghost use Rattle.robot_moves.specs.Moves.{move_by, next_move};
-ghost use Rattle.robot_moves.specs.Worked.{slot, first_wafer, on_arm, at_aligner, in_chamber, finished_in, all_idle, aligner_down, first_chamber_busy};
+ghost use Rattle.robot_moves.specs.Worked.{slot, first_wafer, on_arm, at_aligner, in_chamber, finished_in, first_finished_in, second_wafer, all_idle, aligner_down, first_chamber_busy};
 
 /// A substrate alone in its slot, whose job is PROCESSING, is picked where all modules are Idle; it is not where the aligner is
 /// Down, since its target is not free then.
@@ -22,10 +22,13 @@ pub fn a_substrate_goes_on_from_the_arm()
 {}
 
 /// What is finished in a chamber is picked before what is aligned at the aligner, whatever their numbers, and that before what is
-/// in its slot.
+/// in its slot; of two in chambers the one in the chamber of the greater number, whatever their own numbers. Of two in their slots
+/// it is the one that was registered first, wherever it is told of.
 pub fn the_fullest_stage_goes_first()
     ensures chamber { next_move (first_wafer ∷ at_aligner ∷ finished_in 2 ∷ []) all_idle ≡ Some (move_by 1 2 (task.Pick (codes "CAR01.03") (loc.Chamber 2))) }
     ensures aligner { next_move (first_wafer ∷ at_aligner ∷ []) all_idle ≡ Some (move_by 1 2 (task.Pick (codes "CAR01.02") loc.Aligner)) }
+    ensures chambers { next_move (first_finished_in 1 ∷ finished_in 2 ∷ []) all_idle ≡ Some (move_by 1 2 (task.Pick (codes "CAR01.03") (loc.Chamber 2))) }
+    ensures registered { next_move (second_wafer ∷ first_wafer ∷ []) all_idle ≡ Some (move_by 1 2 (task.Pick (codes "CAR01.01") (slot 1))) }
 {}
 
 /// A chamber processes what it holds; the aligner aligns what it holds.

@@ -3,14 +3,14 @@ use Rattle.std.proofs.Common.{◌≡◌, ℕ, Option, List, sym, ap, ◌∙◌, 
 use Rattle.gem_ids.specs.declared.moment.Moment.{Moment}
 use Rattle.tool_events.specs.declared.config.Config.{Config}
 use Rattle.tool_events.specs.declared.entry.Entry.{Entry}
-use Rattle.actors.specs.ScriptReads.{SourceTold}
+use Rattle.source_lines.specs.Reads.{SourceTold}
 use Rattle.host_actor.specs.declared.bytes.SessionBytes.{SessionBytes}
 use Rattle.outside.specs.Told.{AtPort}
 use Rattle.host_actor.specs.Links.{LinkTold, DoorTold}
 use Rattle.tool_crew.specs.declared.ends.Ends.{Ends}
 use Rattle.tool_crew.specs.Crews.{Outside, outside}
 use Rattle.tool_crew.specs.Ran.{RunDid}
-use Rattle.line_feeding.specs.declared.ended.Cause.{Cause}
+use Rattle.run_causes.specs.declared.cause.Cause.{Cause}
 use Rattle.line_feeding.specs.declared.ended.SessionNote.{SessionNote}
 use Rattle.line_feeding.specs.Going.{SinkView}
 use Rattle.session_laws.proofs.Whole.{sessions_kept}

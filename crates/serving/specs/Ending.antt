@@ -11,8 +11,8 @@ use Rattle.actors.specs.declared.end.ActorEnd.TheVariants as end
 use Rattle.host_actor.specs.declared.bytes.SessionBytes.{SessionBytes}
 use Rattle.tool_crew.specs.declared.ends.Ends.{Ends}
 use Rattle.host_actor.specs.Sessions.{end_behind}
-use Rattle.line_feeding.specs.declared.ended.Cause.{Cause}
-use Rattle.line_feeding.specs.declared.ended.Cause.TheVariants as cause
+use Rattle.run_causes.specs.declared.cause.Cause.{Cause}
+use Rattle.run_causes.specs.declared.cause.Cause.TheVariants as cause
 use Rattle.line_feeding.specs.declared.ended.SessionNote.{SessionNote}
 
 -- the cause of an end, where the history has so many entries and bytes of text, and so many bytes of the script were read: one that is

@@ -10,8 +10,8 @@ use Rattle.tool_crew.specs.declared.ends.Ends.{Ends}
 use Rattle.tool_crew.specs.Crews.{Outside}
 use Rattle.tool_crew.specs.Ran.{RunDid}
 use Rattle.session_laws.specs.Kept.{SessionsKept}
-use Rattle.line_feeding.specs.declared.ended.Cause.{Cause}
-use Rattle.line_feeding.specs.declared.ended.Cause.TheVariants as cause
+use Rattle.run_causes.specs.declared.cause.Cause.{Cause}
+use Rattle.run_causes.specs.declared.cause.Cause.TheVariants as cause
 use Rattle.line_feeding.specs.declared.ended.SessionNote.{SessionNote}
 use Rattle.line_feeding.specs.Fed.{SourceView, IsRead, IsRefused}
 use Rattle.line_feeding.specs.Going.{SinkView}

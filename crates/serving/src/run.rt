@@ -2,11 +2,11 @@
 ghost use Rattle.std.specs.Prelude.{◌≡◌, ◌≢◌, ◌↔◌, ◌⊎◌, ℕ, Some, []};
 ghost use Rattle.tool_events.specs.declared.config.Config.{Config};
 ghost use Rattle.tool_events.specs.Configs.{IsConfig};
-ghost use Rattle.actors.specs.ScriptReads.{source_told};
+ghost use Rattle.source_lines.specs.Reads.{source_told};
 ghost use Rattle.host_actor.specs.Links.{link_told, door_told};
 ghost use Rattle.tool_crew.specs.Crews.{outside};
-ghost use Rattle.line_feeding.specs.declared.ended.Cause.TheVariants as cause;
-ghost use Rattle.line_feeding.specs.Status.{status_of};
+ghost use Rattle.run_causes.specs.declared.cause.Cause.TheVariants as cause;
+ghost use Rattle.run_causes.specs.Status.{status_of};
 ghost use Rattle.line_feeding.specs.Fed.{looked};
 ghost use Rattle.line_feeding.specs.Going.{seen};
 ghost use Rattle.line_feeding.specs.Words.{serve_refused_at};

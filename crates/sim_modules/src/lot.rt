@@ -104,7 +104,6 @@ fn control_job_name(k: u32) -> [u8; 4]
 // The port of a carrier.
 fn port(ports: u8, k: u32) -> u8
     requires ports { 1 ≤ ports }
-    requires few { ports ≤ 2 }
     requires first { 1 ≤ k }
     ensures { result ≡ lot_port ports k }
 {
@@ -126,7 +125,6 @@ fn first_recipe(recipes: &Recipes) -> Text80
 // The carrier is placed at its port.
 fn placed(alloc: Global, ports: u8, k: u32) -> Result<Vec<u8>, NoMemory>
     requires ports { 1 ≤ ports }
-    requires few { ports ≤ 2 }
     requires first { 1 ≤ k }
     ensures { IfOk result (λ line. line.items ≡ placed_line ports k) }
 {
@@ -140,7 +138,6 @@ fn placed(alloc: Global, ports: u8, k: u32) -> Result<Vec<u8>, NoMemory>
 // The carrier is taken away.
 fn removed(alloc: Global, ports: u8, k: u32) -> Result<Vec<u8>, NoMemory>
     requires ports { 1 ≤ ports }
-    requires few { ports ≤ 2 }
     requires first { 1 ≤ k }
     ensures { IfOk result (λ line. line.items ≡ removed_line ports k) }
 {

@@ -1,15 +1,18 @@
 -- What stands at a place of a disk's bytes is one thing.
-use Rattle.std.proofs.Common.{◌≡◌, inl, inr, ℕ, ◌+◌, ◌-◌, ◌<◌, ◌≤◌, ◌^◌, Bool, List, [], ◌∷◌, ◌++◌, length, get_or, refl, sym, ◌∙◌, ap, arith, length-append}
+use Rattle.std.proofs.Common.{◌≡◌, inl, inr, ℕ, ◌+◌, ◌-◌, ◌<◌, ◌≤◌, ◌^◌, Bool, List, [], ◌∷◌, ◌++◌, length, get_or, refl, sym, ◌∙◌, ap, subst, arith}
 use Rattle.std.specs.Int.{w32, w64, to_be_bytes, from_be_bytes}
 use Rattle.std.proofs.lemmas.Nat.{from_be_bytes-to_be_bytes_4, from_be_bytes-to_be_bytes_8}
 use Rattle.std.proofs.lemmas.List.{ext_get_or, get_or_past}
 use Rattle.std.proofs.lemmas.Bool.{cases_lt}
 use Rattle.spool.specs.declared.note.Note.{Note}
 use Rattle.outside.specs.Disk.{HasAt}
-use Rattle.spool_format.proofs.Pieces.{joined, left_part, right_part}
-use Rattle.spool_format.specs.Format.{Fits, body, flag, record_bytes, note_head, kind_byte}
+use Rattle.spool_format.proofs.Pieces.{joined}
+use Rattle.spool_format.specs.Format.{body, flag, record_bytes, note_head}
 use Rattle.spool_format.specs.Runs.{IsMissing}
-use Rattle.spool_format.specs.declared.change.Change.TheVariants.{Push, Take}
+use Rattle.spool_format.specs.declared.change.Change.TheVariants.{Take}
+use Rattle.spool_format.specs.Items.{noted}
+use Rattle.spool_format.specs.Unread.{HasNote}
+use Rattle.spool_format.proofs.Spelled.{noted_is}
 
 pub same_piece : (bytes : List ℕ) (at : ℕ) (xs ys : List ℕ) → length xs ≡ length ys → HasAt bytes at xs → HasAt bytes at ys → xs ≡ ys
 same_piece bytes at xs ys size this that = ext_get_or 0 xs ys size (λ i lt. sym (this.same i lt) ∙ that.same i (omega arith))
@@ -30,14 +33,13 @@ not_missing bytes at stop place piece has fits low high (inr past) = absurd (ome
 
 -- ---- records
 
-module _ (bytes : List ℕ) (at gate : ℕ) (opened : HasAt bytes at (gate ∷ [])) where
-  pub push_there : (overwrite : Bool) (note : Note) → HasAt bytes (at + 1) (1 ∷ []) → HasAt bytes (at + 2) (flag overwrite ∷ []) → HasAt bytes (at + 3) (note_head note ++ note.text) → HasAt bytes at (record_bytes (gate, Push overwrite note))
-  unfolding body
-  push_there overwrite note op ow rest =
-      joined bytes at (at + 1) (gate ∷ []) (1 ∷ flag overwrite ∷ note_head note ++ note.text) refl opened
-      (joined bytes (at + 1) (at + 2) (1 ∷ []) (flag overwrite ∷ note_head note ++ note.text) (omega arith) op
+module _ (bytes : List ℕ) (at gate : ℕ) where
+  pub noted_there : (operation : ℕ) (overwrite : Bool) (note : Note) → HasNote operation → HasAt bytes at (gate ∷ operation ∷ []) → HasAt bytes (at + 2) (flag overwrite ∷ []) → HasAt bytes (at + 3) (note_head note ++ note.text) → HasAt bytes at (record_bytes (gate, noted operation overwrite note))
+  noted_there operation overwrite note has front ow rest =
+      subst (HasAt bytes at) (noted_is gate operation overwrite note has)
+      (joined bytes at (at + 2) (gate ∷ operation ∷ []) (flag overwrite ∷ note_head note ++ note.text) refl front
       (joined bytes (at + 2) (at + 3) (flag overwrite ∷ []) (note_head note ++ note.text) (omega arith) ow rest))
 
-  pub take_there : HasAt bytes (at + 1) (3 ∷ []) → HasAt bytes at (record_bytes (gate, Take))
+  pub take_there : HasAt bytes at (gate ∷ []) → HasAt bytes (at + 1) (3 ∷ []) → HasAt bytes at (record_bytes (gate, Take))
   unfolding body
-  take_there op = joined bytes at (at + 1) (gate ∷ []) (3 ∷ []) refl opened op
+  take_there opened op = joined bytes at (at + 1) (gate ∷ []) (3 ∷ []) refl opened op

@@ -3,7 +3,9 @@ pub mod Fields
 pub mod Given
 pub mod Heads
 pub mod Moments
+pub mod OnePlace
 pub mod Pieces
+pub mod PutBack
 pub mod Refusing
 pub mod Replayed
 pub mod Spelled

@@ -8,12 +8,13 @@ use Rattle.spool.specs.declared.note.Kind.TheVariants.{Event}
 use Rattle.outside.specs.Disk.{HasAt}
 use Rattle.spool_format.specs.Runs.{IsMissing}
 use Rattle.spool_format.specs.declared.change.Change.{Change}
-use Rattle.spool_format.specs.declared.change.Change.TheVariants.{Push, Take}
+use Rattle.spool_format.specs.declared.change.Change.TheVariants.{Push, PutBack, Take}
 use Rattle.spool_format.specs.Format.{Fits, CanStand, body, flag, kind_byte, record_bytes}
-use Rattle.spool_format.specs.Unread.{EndsAt, IsOther, IsKindByte, IsFlagByte, IsRecord, NoRecord, AtGate, AtOperation, AtOverwrite, AtNumber, AtKind, AtId, AtLength, AtText}
+use Rattle.spool_format.specs.Items.{noted}
+use Rattle.spool_format.specs.Unread.{HasNote, EndsAt, IsOther, IsKindByte, IsFlagByte, IsRecord, NoRecord, AtGate, AtOperation, AtOverwrite, AtNumber, AtKind, AtId, AtLength, AtText}
 use Rattle.spool_format.proofs.Fields.{same_piece, number_32}
 use Rattle.spool_format.proofs.Pieces.{joined, left_part, right_part, no_bytes}
-use Rattle.spool_format.proofs.Spelled.{push_record_size}
+use Rattle.spool_format.proofs.Spelled.{noted_bytes, noted_size, noted_is, noted_fits}
 
 -- the same at an equal place, of an equal size
 pub moved : (bytes : List ℕ) (stop a b n m place : ℕ) → a ≡ b → n ≡ m → EndsAt bytes stop a n place → EndsAt bytes stop b m place
@@ -34,8 +35,8 @@ blank_fits : Fits blank
 blank_fits = record { number = omega arith; id = omega arith; text = omega arith }
 
 module _ (bytes : List ℕ) (start stop gate : ℕ) (opened : 0 < gate) where
-  is_push : (overwrite : Bool) (note : Note) → Fits note → IsRecord (record_bytes (gate, Push overwrite note))
-  is_push overwrite note fits = ((gate, Push overwrite note), opened, fits, refl)
+  is_noted : (op : ℕ) → HasNote op → (overwrite : Bool) (note : Note) → Fits note → IsRecord (noted_bytes gate op overwrite note)
+  is_noted op noting overwrite note fits = ((gate, noted op overwrite note), opened, noted_fits op overwrite note noting fits, noted_is gate op overwrite note noting)
 
   is_take : IsRecord (record_bytes (gate, Take))
   is_take = ((gate, Take), opened, tt, refl)
@@ -53,14 +54,15 @@ module _ (bytes : List ℕ) (start stop gate : ℕ) (opened : 0 < gate) where
     unfolding body
     ends_operation place before ends = inl (record { text = record_bytes (gate, Take); form = is_take; field = AtOperation; fits = omega arith; there = here; before = before; ends = ends })
 
-    other_operation : (op : ℕ) → (op ≡ 1 → ⊥) → (op ≡ 3 → ⊥) → HasAt bytes (start + 1) (op ∷ []) → (gate' : ℕ) (change : Change) → HasAt bytes start (take 2 (record_bytes (gate', change))) → ⊥
+    other_operation : (op : ℕ) → (HasNote op → ⊥) → (op ≡ 3 → ⊥) → HasAt bytes (start + 1) (op ∷ []) → (gate' : ℕ) (change : Change) → HasAt bytes start (take 2 (record_bytes (gate', change))) → ⊥
     unfolding body
-    other_operation op no_push no_take there gate' (Push b m) has = no_push (one (start + 1) op 1 there (right_part bytes start (start + 1) (gate' ∷ []) (1 ∷ []) refl has))
-    other_operation op no_push no_take there gate' Take has = no_take (one (start + 1) op 3 there (right_part bytes start (start + 1) (gate' ∷ []) (3 ∷ []) refl has))
+    other_operation op no_note no_take there gate' (Push b m) has = no_note (inl (one (start + 1) op 1 there (right_part bytes start (start + 1) (gate' ∷ []) (1 ∷ []) refl has)))
+    other_operation op no_note no_take there gate' (PutBack b m) has = no_note (inr (one (start + 1) op 2 there (right_part bytes start (start + 1) (gate' ∷ []) (2 ∷ []) refl has)))
+    other_operation op no_note no_take there gate' Take has = no_take (one (start + 1) op 3 there (right_part bytes start (start + 1) (gate' ∷ []) (3 ∷ []) refl has))
 
-    pub wrong_operation : (op : ℕ) → (op ≡ 1 → ⊥) → (op ≡ 3 → ⊥) → start + 1 < stop → HasAt bytes (start + 1) (op ∷ []) → NoRecord bytes start stop (start + 1)
+    pub wrong_operation : (op : ℕ) → (HasNote op → ⊥) → (op ≡ 3 → ⊥) → start + 1 < stop → HasAt bytes (start + 1) (op ∷ []) → NoRecord bytes start stop (start + 1)
     unfolding body
-    wrong_operation op no_push no_take before there = inr (record {
+    wrong_operation op no_note no_take before there = inr (record {
       text = record_bytes (gate, Take);
       form = is_take;
       field = AtOperation;
@@ -69,28 +71,31 @@ module _ (bytes : List ℕ) (start stop gate : ℕ) (opened : 0 < gate) where
       place_is = refl;
       before = omega arith;
       whole = omega (arith, there.within 0 (omega arith));
-      none = λ other form has. other_operation op no_push no_take there form.0.0 form.0.1 (subst (λ (l : List ℕ). HasAt bytes start (take 2 l)) form.3 has);
+      none = λ other form has. other_operation op no_note no_take there form.0.0 form.0.1 (subst (λ (l : List ℕ). HasAt bytes start (take 2 l)) form.3 has);
     })
 
-  module _ (here : HasAt bytes start (gate ∷ 1 ∷ [])) where
+  module _ (op : ℕ) (noting : HasNote op) (here : HasAt bytes start (gate ∷ op ∷ [])) where
     -- a take has another operation
     no_take : (gate' : ℕ) → HasAt bytes start (gate' ∷ 3 ∷ []) → ⊥
-    no_take gate' has = absurd (omega (arith, one (start + 1) 1 3 (right_part bytes start (start + 1) (gate ∷ []) (1 ∷ []) refl here) (right_part bytes start (start + 1) (gate' ∷ []) (3 ∷ []) refl has)))
+    no_take gate' has =
+        let three : op ≡ 3 = one (start + 1) op 3 (right_part bytes start (start + 1) (gate ∷ []) (op ∷ []) refl here) (right_part bytes start (start + 1) (gate' ∷ []) (3 ∷ []) refl has) in
+        ⊎_elim (λ is. absurd (omega (arith, three, is))) (λ is. absurd (omega (arith, three, is))) noting
 
     pub ends_overwrite : (place : ℕ) → start + 2 ≤ stop → EndsAt bytes stop (start + 2) 1 place → NoRecord bytes start stop place
     unfolding body
-    ends_overwrite place before ends = inl (record { text = record_bytes (gate, Push false blank); form = is_push false blank blank_fits; field = AtOverwrite; fits = omega arith; there = here; before = before; ends = ends })
+    ends_overwrite place before ends = inl (record { text = noted_bytes gate op false blank; form = is_noted op noting false blank blank_fits; field = AtOverwrite; fits = omega arith; there = here; before = before; ends = ends })
 
     other_flag : (place : ℕ) → IsOther IsFlagByte bytes stop (start + 2) place → (gate' : ℕ) (change : Change) → HasAt bytes start (take 3 (record_bytes (gate', change))) → ⊥
     unfolding body
     other_flag place other gate' (Push b m) has = other.none (flag b) (b, refl) (right_part bytes start (start + 2) (gate' ∷ 1 ∷ []) (flag b ∷ []) refl has)
+    other_flag place other gate' (PutBack b m) has = other.none (flag b) (b, refl) (right_part bytes start (start + 2) (gate' ∷ 2 ∷ []) (flag b ∷ []) refl has)
     other_flag place other gate' Take has = no_take gate' has
 
     pub wrong_overwrite : (place : ℕ) → IsOther IsFlagByte bytes stop (start + 2) place → NoRecord bytes start stop place
     unfolding body
     wrong_overwrite place other = inr (record {
-      text = record_bytes (gate, Push false blank);
-      form = is_push false blank blank_fits;
+      text = noted_bytes gate op false blank;
+      form = is_noted op noting false blank blank_fits;
       field = AtOverwrite;
       may = tt;
       there = here;
@@ -100,17 +105,17 @@ module _ (bytes : List ℕ) (start stop gate : ℕ) (opened : 0 < gate) where
       none = λ text form has. other_flag place other form.0.0 form.0.1 (subst (λ (l : List ℕ). HasAt bytes start (take 3 l)) form.3 has);
     })
 
-  -- ---- behind the overwrite byte of a push
+  -- ---- behind the overwrite byte of a record with a note
 
-  module _ (overwrite : Bool) (at : ℕ) (is : at ≡ start + 3) (here : HasAt bytes start (gate ∷ 1 ∷ flag overwrite ∷ [])) where
-    a_push : HasAt bytes start (gate ∷ 1 ∷ [])
-    a_push = left_part bytes start (gate ∷ 1 ∷ []) (flag overwrite ∷ []) here
+  module _ (op : ℕ) (noting : HasNote op) (overwrite : Bool) (at : ℕ) (is : at ≡ start + 3) (here : HasAt bytes start (gate ∷ op ∷ flag overwrite ∷ [])) where
+    to_operation : HasAt bytes start (gate ∷ op ∷ [])
+    to_operation = left_part bytes start (gate ∷ op ∷ []) (flag overwrite ∷ []) here
 
     pub ends_number : (place : ℕ) → at ≤ stop → EndsAt bytes stop at 8 place → NoRecord bytes start stop place
     unfolding body
     ends_number place before ends = inl (record {
-      text = record_bytes (gate, Push overwrite blank);
-      form = is_push overwrite blank blank_fits;
+      text = noted_bytes gate op overwrite blank;
+      form = is_noted op noting overwrite blank blank_fits;
       field = AtNumber;
       fits = omega arith;
       there = here;
@@ -119,20 +124,20 @@ module _ (bytes : List ℕ) (start stop gate : ℕ) (opened : 0 < gate) where
     })
 
     module _ (number : ℕ) (small : number < 2 ^ 64) (numbered : HasAt bytes at (to_be_bytes w64 number)) where
-      to_kind : HasAt bytes start ((gate ∷ 1 ∷ flag overwrite ∷ []) ++ to_be_bytes w64 number)
-      to_kind = joined bytes start at (gate ∷ 1 ∷ flag overwrite ∷ []) (to_be_bytes w64 number) is here numbered
+      to_kind : HasAt bytes start ((gate ∷ op ∷ flag overwrite ∷ []) ++ to_be_bytes w64 number)
+      to_kind = joined bytes start at (gate ∷ op ∷ flag overwrite ∷ []) (to_be_bytes w64 number) is here numbered
 
-      abbrev noted : Kind → ℕ → List ℕ → Note
-      noted kind id text = note_of number kind id text
+      abbrev this : Kind → ℕ → List ℕ → Note
+      this kind id text = note_of number kind id text
 
-      noted_fits : (kind : Kind) (id : ℕ) (text : List ℕ) → id < 2 ^ 32 → length text ≤ 87000 → Fits (noted kind id text)
-      noted_fits kind id text low short = record { number = small; id = low; text = short }
+      this_fits : (kind : Kind) (id : ℕ) (text : List ℕ) → id < 2 ^ 32 → length text ≤ 87000 → Fits (this kind id text)
+      this_fits kind id text low short = record { number = small; id = low; text = short }
 
       pub ends_kind : (place : ℕ) → at + 8 ≤ stop → EndsAt bytes stop (at + 8) 1 place → NoRecord bytes start stop place
       unfolding body
       ends_kind place before ends = inl (record {
-        text = record_bytes (gate, Push overwrite (noted Event 0 []));
-        form = is_push overwrite (noted Event 0 []) (noted_fits Event 0 [] (omega arith) (omega arith));
+        text = noted_bytes gate op overwrite (this Event 0 []);
+        form = is_noted op noting overwrite (this Event 0 []) (this_fits Event 0 [] (omega arith) (omega arith));
         field = AtKind;
         fits = omega arith;
         there = to_kind;
@@ -143,13 +148,14 @@ module _ (bytes : List ℕ) (start stop gate : ℕ) (opened : 0 < gate) where
       other_kind : (place : ℕ) → IsOther IsKindByte bytes stop (at + 8) place → (gate' : ℕ) (change : Change) → HasAt bytes start (take 12 (record_bytes (gate', change))) → ⊥
       unfolding body
       other_kind place other gate' (Push b m) has = other.none (kind_byte m.kind) (m.kind, refl) (right_part bytes start (at + 8) (gate' ∷ 1 ∷ flag b ∷ to_be_bytes w64 m.number) (kind_byte m.kind ∷ []) (omega (arith, is)) has)
-      other_kind place other gate' Take has = no_take a_push gate' has
+      other_kind place other gate' (PutBack b m) has = other.none (kind_byte m.kind) (m.kind, refl) (right_part bytes start (at + 8) (gate' ∷ 2 ∷ flag b ∷ to_be_bytes w64 m.number) (kind_byte m.kind ∷ []) (omega (arith, is)) has)
+      other_kind place other gate' Take has = no_take op noting to_operation gate' has
 
       pub wrong_kind : (place : ℕ) → IsOther IsKindByte bytes stop (at + 8) place → NoRecord bytes start stop place
       unfolding body
       wrong_kind place other = inr (record {
-        text = record_bytes (gate, Push overwrite (noted Event 0 []));
-        form = is_push overwrite (noted Event 0 []) (noted_fits Event 0 [] (omega arith) (omega arith));
+        text = noted_bytes gate op overwrite (this Event 0 []);
+        form = is_noted op noting overwrite (this Event 0 []) (this_fits Event 0 [] (omega arith) (omega arith));
         field = AtKind;
         may = tt;
         there = to_kind;
@@ -160,14 +166,14 @@ module _ (bytes : List ℕ) (start stop gate : ℕ) (opened : 0 < gate) where
       })
 
       module _ (kind : Kind) (kinded : HasAt bytes (at + 8) (kind_byte kind ∷ [])) where
-        to_id : HasAt bytes start (((gate ∷ 1 ∷ flag overwrite ∷ []) ++ to_be_bytes w64 number) ++ kind_byte kind ∷ [])
-        to_id = joined bytes start (at + 8) ((gate ∷ 1 ∷ flag overwrite ∷ []) ++ to_be_bytes w64 number) (kind_byte kind ∷ []) (omega (arith, is)) to_kind kinded
+        to_id : HasAt bytes start (((gate ∷ op ∷ flag overwrite ∷ []) ++ to_be_bytes w64 number) ++ kind_byte kind ∷ [])
+        to_id = joined bytes start (at + 8) ((gate ∷ op ∷ flag overwrite ∷ []) ++ to_be_bytes w64 number) (kind_byte kind ∷ []) (omega (arith, is)) to_kind kinded
 
         pub ends_id : (place : ℕ) → at + 9 ≤ stop → EndsAt bytes stop (at + 9) 4 place → NoRecord bytes start stop place
         unfolding body
         ends_id place before ends = inl (record {
-          text = record_bytes (gate, Push overwrite (noted kind 0 []));
-          form = is_push overwrite (noted kind 0 []) (noted_fits kind 0 [] (omega arith) (omega arith));
+          text = noted_bytes gate op overwrite (this kind 0 []);
+          form = is_noted op noting overwrite (this kind 0 []) (this_fits kind 0 [] (omega arith) (omega arith));
           field = AtId;
           fits = omega arith;
           there = to_id;
@@ -176,14 +182,14 @@ module _ (bytes : List ℕ) (start stop gate : ℕ) (opened : 0 < gate) where
         })
 
         module _ (id : ℕ) (low : id < 2 ^ 32) (named : HasAt bytes (at + 9) (to_be_bytes w32 id)) where
-          to_length : HasAt bytes start ((((gate ∷ 1 ∷ flag overwrite ∷ []) ++ to_be_bytes w64 number) ++ kind_byte kind ∷ []) ++ to_be_bytes w32 id)
-          to_length = joined bytes start (at + 9) (((gate ∷ 1 ∷ flag overwrite ∷ []) ++ to_be_bytes w64 number) ++ kind_byte kind ∷ []) (to_be_bytes w32 id) (omega (arith, is)) to_id named
+          to_length : HasAt bytes start ((((gate ∷ op ∷ flag overwrite ∷ []) ++ to_be_bytes w64 number) ++ kind_byte kind ∷ []) ++ to_be_bytes w32 id)
+          to_length = joined bytes start (at + 9) (((gate ∷ op ∷ flag overwrite ∷ []) ++ to_be_bytes w64 number) ++ kind_byte kind ∷ []) (to_be_bytes w32 id) (omega (arith, is)) to_id named
 
           pub ends_length : (place : ℕ) → at + 13 ≤ stop → EndsAt bytes stop (at + 13) 4 place → NoRecord bytes start stop place
           unfolding body
           ends_length place before ends = inl (record {
-            text = record_bytes (gate, Push overwrite (noted kind id []));
-            form = is_push overwrite (noted kind id []) (noted_fits kind id [] low (omega arith));
+            text = noted_bytes gate op overwrite (this kind id []);
+            form = is_noted op noting overwrite (this kind id []) (this_fits kind id [] low (omega arith));
             field = AtLength;
             fits = omega arith;
             there = to_length;
@@ -192,19 +198,22 @@ module _ (bytes : List ℕ) (start stop gate : ℕ) (opened : 0 < gate) where
           })
 
           module _ (len : ℕ) (some : len < 2 ^ 32) (sized : HasAt bytes (at + 13) (to_be_bytes w32 len)) where
-            too_long : 87000 < len → (gate' : ℕ) (change : Change) → CanStand change → HasAt bytes start (take 20 (record_bytes (gate', change))) → ⊥
-            unfolding body
-            too_long long gate' (Push b m) fits has =
-                let there = right_part bytes start (at + 13) (gate' ∷ 1 ∷ flag b ∷ to_be_bytes w64 m.number ++ kind_byte m.kind ∷ to_be_bytes w32 m.id) (to_be_bytes w32 (length m.text)) (omega (arith, is)) has in
+            no_text : 87000 < len → (m : Note) → Fits m → HasAt bytes (at + 13) (to_be_bytes w32 (length m.text)) → ⊥
+            no_text long m fits there =
                 let same = number_32 len (length m.text) some (omega (arith, fits.text)) (same_piece bytes (at + 13) (to_be_bytes w32 len) (to_be_bytes w32 (length m.text)) refl sized there) in
                 absurd (omega (arith, same, fits.text))
-            too_long long gate' Take fits has = no_take a_push gate' has
+
+            too_long : 87000 < len → (gate' : ℕ) (change : Change) → CanStand change → HasAt bytes start (take 20 (record_bytes (gate', change))) → ⊥
+            unfolding body
+            too_long long gate' (Push b m) fits has = no_text long m fits (right_part bytes start (at + 13) (gate' ∷ 1 ∷ flag b ∷ to_be_bytes w64 m.number ++ kind_byte m.kind ∷ to_be_bytes w32 m.id) (to_be_bytes w32 (length m.text)) (omega (arith, is)) has)
+            too_long long gate' (PutBack b m) fits has = no_text long m fits (right_part bytes start (at + 13) (gate' ∷ 2 ∷ flag b ∷ to_be_bytes w64 m.number ++ kind_byte m.kind ∷ to_be_bytes w32 m.id) (to_be_bytes w32 (length m.text)) (omega (arith, is)) has)
+            too_long long gate' Take fits has = no_take op noting to_operation gate' has
 
             pub wrong_length : 87000 < len → at + 17 ≤ stop → NoRecord bytes start stop (at + 13)
             unfolding body
             wrong_length long before = inr (record {
-              text = record_bytes (gate, Push overwrite (noted kind id []));
-              form = is_push overwrite (noted kind id []) (noted_fits kind id [] low (omega arith));
+              text = noted_bytes gate op overwrite (this kind id []);
+              form = is_noted op noting overwrite (this kind id []) (this_fits kind id [] low (omega arith));
               field = AtLength;
               may = tt;
               there = to_length;
@@ -219,17 +228,17 @@ module _ (bytes : List ℕ) (start stop gate : ℕ) (opened : 0 < gate) where
             ends_text place short before ends =
                 let zeros : List ℕ = replicate len 0 in
                 let many : length zeros ≡ len = length-replicate len 0 in
-                let note = noted kind id zeros in
-                let whole = push_record_size gate overwrite note in
+                let note = this kind id zeros in
+                let whole = noted_size gate op overwrite note in
                 inl (record {
-                  text = record_bytes (gate, Push overwrite note);
-                  form = is_push overwrite note (noted_fits kind id zeros low (omega (arith, many)));
+                  text = noted_bytes gate op overwrite note;
+                  form = is_noted op noting overwrite note (this_fits kind id zeros low (omega (arith, many)));
                   field = AtText;
                   fits = omega (arith, whole);
-                  there = joined bytes start (at + 13) ((((gate ∷ 1 ∷ flag overwrite ∷ []) ++ to_be_bytes w64 number) ++ kind_byte kind ∷ []) ++ to_be_bytes w32 id) (to_be_bytes w32 (length zeros)) (omega (arith, is)) to_length
+                  there = joined bytes start (at + 13) ((((gate ∷ op ∷ flag overwrite ∷ []) ++ to_be_bytes w64 number) ++ kind_byte kind ∷ []) ++ to_be_bytes w32 id) (to_be_bytes w32 (length zeros)) (omega (arith, is)) to_length
                       (subst (λ (n : ℕ). HasAt bytes (at + 13) (to_be_bytes w32 n)) (sym many) sized);
                   before = omega (arith, is);
-                  ends = moved bytes stop (at + 17) (start + 20) len (length (record_bytes (gate, Push overwrite note)) - 20) place (omega (arith, is)) (omega (arith, whole, many)) ends;
+                  ends = moved bytes stop (at + 17) (start + 20) len (length (noted_bytes gate op overwrite note) - 20) place (omega (arith, is)) (omega (arith, whole, many)) ends;
                 })
 
 -- ---- a missing byte

@@ -1,18 +1,18 @@
 -- One record more, and what all of them give.
-use Rattle.std.proofs.Common.{◌≡◌, ℕ, ◌+◌, ◌<◌, List, [], ◌∷◌, ◌++◌, length, refl, sym, ◌∙◌, ap, subst, arith}
+use Rattle.std.proofs.Common.{true, ◌≡◌, ℕ, ◌+◌, ◌<◌, List, [], ◌∷◌, ◌++◌, length, refl, sym, subst, arith}
 use Rattle.spool.specs.declared.note.Note.{Note}
 use Rattle.outside.specs.Disk.{HasAt, Only}
 use Rattle.spool_format.proofs.Pieces.{joined}
-use Rattle.spool_format.specs.Format.{Sizes, Record, CanStand, Stand, replayed, changed, spelled, Shows, Settled, half_start, head_bytes}
+use Rattle.spool_format.specs.Format.{Sizes, Record, CanStand, may_follow, Stand, replayed, changed, spelled, Shows, Settled, half_start, head_bytes}
 use Rattle.spool_format.specs.Items.{IsReadTo}
 
 pub replayed-push : (capacity : ℕ) (notes : List Note) (rs : List Record) (r : Record) → replayed capacity notes (rs ++ r ∷ []) ≡ changed capacity r.1 (replayed capacity notes rs)
 replayed-push capacity notes [] r = refl
 replayed-push capacity notes (q ∷ rs) r = replayed-push capacity (changed capacity q.1 notes) rs r
 
-pub stand-push : (rs : List Record) (r : Record) → Stand rs → 0 < r.0 → CanStand r.1 → Stand (rs ++ r ∷ [])
-stand-push [] r stand opened may = (opened, may, tt)
-stand-push (q ∷ rs) r stand opened may = (stand.0, stand.1, stand-push rs r stand.2 opened may)
+pub stand-push : (capacity : ℕ) (notes : List Note) (rs : List Record) (r : Record) → Stand capacity notes rs → 0 < r.0 → CanStand r.1 → may_follow r.1 (replayed capacity notes rs) ≡ true → Stand capacity notes (rs ++ r ∷ [])
+stand-push capacity notes [] r stand opened can may = (opened, can, may, tt)
+stand-push capacity notes (q ∷ rs) r stand opened can may = (stand.0, stand.1, stand.2, stand-push capacity (changed capacity q.1 notes) rs r stand.3 opened can may)
 
 -- what was read is what each image has
 pub settled_read : (s : Sizes) (selector end : ℕ) (notes : List Note) (R : List ℕ) (images : List ℕ → Type 0) (told : Type 0) → told → HasAt R 0 (head_bytes s selector)

@@ -1,19 +1,18 @@
 -- Where bytes leave the format they stand for no notes.
-use Rattle.std.proofs.Common.{◌≡◌, ◌⊎◌, inl, inr, ⊎_elim, ℕ, ◌+◌, ◌-◌, ◌<◌, ◌≤◌, Bool, List, [], ◌∷◌, ◌++◌, length, take, drop, refl, sym, ap, subst, arith, length-append}
+use Rattle.std.proofs.Common.{true, false, ◌∙◌, ◌≡◌, ◌⊎◌, inl, inr, ⊎_elim, ℕ, ◌+◌, ◌-◌, ◌<◌, ◌≤◌, Bool, List, [], ◌∷◌, ◌++◌, length, take, drop, refl, sym, ap, subst, arith, length-append}
 use Rattle.std.specs.Prelude.{zero, suc}
 use Rattle.std.specs.Int.{w32, w64, to_be_bytes}
 use Rattle.std.proofs.lemmas.List.{append-nil, take-append-drop}
 use Rattle.spool.specs.declared.note.Note.{Note}
 use Rattle.outside.specs.Disk.{HasAt}
 use Rattle.spool_format.specs.declared.change.Change.{Change}
-use Rattle.spool_format.specs.declared.change.Change.TheVariants.{Push, Take}
-use Rattle.spool_format.specs.Runs.{IsMissing}
-use Rattle.spool_format.specs.Format.{CanStand, Record, Stand, Sizes, IsSize, StandsFor, body, flag, kind_byte, note_head, record_bytes, spelled, head_bytes, half_start}
-use Rattle.spool_format.specs.Unread.{EndsAt, IsRecord, RecordField, AtGate, AtOperation, AtOverwrite, AtNumber, AtKind, AtId, AtLength, AtText, record_begins, record_size, IsCodedField, NoRecord, NoRecordBehind, IsHead, HeadField, AtSelector, AtCapacity, AtHalf, head_begins, head_size, NoHead, NoHalf, IsUnread}
+use Rattle.spool_format.specs.declared.change.Change.TheVariants.{Push, PutBack, Take}
+use Rattle.spool_format.specs.Format.{Fits, CanStand, may_follow, Record, Stand, Sizes, IsSize, StandsFor, body, changed, flag, kind_byte, note_head, record_bytes, spelled, head_bytes, half_start, replayed}
+use Rattle.spool_format.specs.Unread.{RecordField, AtGate, AtOperation, AtOverwrite, AtNumber, AtKind, AtId, AtLength, AtText, record_begins, record_size, IsCodedField, NoRecord, NoChange, head_begins, head_size, NoHead, IsUnread}
 use Rattle.spool_format.proofs.Fields.{not_missing}
 use Rattle.spool_format.proofs.Pieces.{left_part, right_part}
-use Rattle.spool_format.proofs.Spelled.{push_record_size, take_record_size}
-use Rattle.spool_format.proofs.Alone.{one_byte_is, one_record, one_head, take_operation, no_both, length_at, length_is, first_record, other_records, shut}
+use Rattle.spool_format.proofs.Spelled.{noted_bytes, noted_size, push_is_noted, put_back_is_noted, push_record_size, put_back_record_size, take_record_size}
+use Rattle.spool_format.proofs.Alone.{one_byte_is, operation, operation_at, one_record, one_head, length_at, length_is, first_record, other_records, shut}
 
 -- a front of what stands there stands there
 pub front_of : (bytes : List ℕ) (at n : ℕ) (text : List ℕ) → HasAt bytes at text → HasAt bytes at (take n text)
@@ -79,32 +78,52 @@ before_text text AtText = inr refl
 
 two_bytes : (gate : ℕ) (change : Change) → 2 ≤ length (record_bytes (gate, change))
 two_bytes gate (Push b n) = omega (arith, push_record_size gate b n)
+two_bytes gate (PutBack b n) = omega (arith, put_back_record_size gate b n)
 two_bytes gate Take = omega (arith, take_record_size gate)
 
 module _ (bytes : List ℕ) (at : ℕ) where
-  -- the length field of a push whose front stands there
-  length_front : (gate : ℕ) (b : Bool) (n : Note) → HasAt bytes at (take 20 (record_bytes (gate, Push b n))) → HasAt bytes (at + 3 + 13) (to_be_bytes w32 (length n.text))
-  unfolding body
-  length_front gate b n has = right_part bytes at (at + 3 + 13) (gate ∷ 1 ∷ flag b ∷ to_be_bytes w64 n.number ++ kind_byte n.kind ∷ to_be_bytes w32 n.id) (to_be_bytes w32 (length n.text)) (omega arith) has
+  -- the length field of a record whose front stands there
+  length_front : (gate op : ℕ) (b : Bool) (n : Note) → HasAt bytes at (take 20 (noted_bytes gate op b n)) → HasAt bytes (at + 3 + 13) (to_be_bytes w32 (length n.text))
+  length_front gate op b n has = right_part bytes at (at + 3 + 13) (gate ∷ op ∷ flag b ∷ to_be_bytes w64 n.number ++ kind_byte n.kind ∷ to_be_bytes w32 n.id) (to_be_bytes w32 (length n.text)) (omega arith) has
 
-  operation_front : (gate : ℕ) (b : Bool) (n : Note) (k : ℕ) → 1 < k → HasAt bytes at (take k (record_bytes (gate, Push b n))) → HasAt bytes (at + 1) (1 ∷ [])
+  operation_front : (gate : ℕ) (c : Change) (k : ℕ) → 1 < k → HasAt bytes at (take k (record_bytes (gate, c))) → HasAt bytes (at + 1) (operation c ∷ [])
   unfolding body
-  operation_front gate b n k some has = second_of bytes at k gate 1 (flag b ∷ note_head n ++ n.text) some has
+  operation_front gate (Push b n) k some has = second_of bytes at k gate 1 (flag b ∷ note_head n ++ n.text) some has
+  operation_front gate (PutBack b n) k some has = second_of bytes at k gate 2 (flag b ∷ note_head n ++ n.text) some has
+  operation_front gate Take k some has = second_of bytes at k gate 3 [] some has
 
-  -- a record that stands there reaches as far as a field of another of which the front stands there too
+  -- of two records with a note, of which one stands there and of the other the front up to a field, the one reaches as far as that field
+  noted_reach : (g h op op' : ℕ) (b b' : Bool) (n m : Note) (field : RecordField) → Fits n → Fits m → HasAt bytes at (take (record_begins field) (noted_bytes g op b n)) → HasAt bytes at (noted_bytes h op' b' m)
+      → record_begins field + record_size (noted_bytes g op b n) field ≤ length (noted_bytes h op' b' m)
+  noted_reach g h op op' b b' n m field fits fits' front has = ⊎_elim
+      (λ small. omega (arith, small, noted_size h op' b' m))
+      (λ is.
+      let there = length_front g op b n (subst (λ (f : RecordField). HasAt bytes at (take (record_begins f) (noted_bytes g op b n))) is front) in
+      let same = length_is bytes at (length n.text) (length m.text) fits.text fits'.text there (length_at bytes at h op' b' m has) in
+      let size : record_begins field + record_size (noted_bytes g op b n) field ≡ 20 + (length (noted_bytes g op b n) - 20) = ap (λ (f : RecordField). record_begins f + record_size (noted_bytes g op b n) f) is in
+      omega (arith, size, same, noted_size g op b n, noted_size h op' b' m))
+      (before_text (noted_bytes g op b n) field)
+
+  -- the same of any two
+  same_reach : (g h : ℕ) (c d : Change) (field : RecordField) → CanStand c → CanStand d → record_begins field + record_size (record_bytes (g, c)) field ≤ length (record_bytes (g, c))
+      → HasAt bytes at (take (record_begins field) (record_bytes (g, c))) → HasAt bytes at (record_bytes (h, d)) → (1 < record_begins field) × (3 ≤ record_begins field + record_size (record_bytes (g, c)) field)
+      → operation c ≡ operation d → record_begins field + record_size (record_bytes (g, c)) field ≤ length (record_bytes (h, d))
+  same_reach g h (Push b n) (Push b' m) field can can' fits front has far op =
+      subst (λ (l : List ℕ). record_begins field + record_size l field ≤ length (record_bytes (h, Push b' m))) (sym (push_is_noted g b n))
+      (subst (λ (l : List ℕ). record_begins field + record_size (noted_bytes g 1 b n) field ≤ length l) (sym (push_is_noted h b' m))
+      (noted_reach g h 1 1 b b' n m field can can' (subst (λ (l : List ℕ). HasAt bytes at (take (record_begins field) l)) (push_is_noted g b n) front) (subst (HasAt bytes at) (push_is_noted h b' m) has)))
+  same_reach g h (PutBack b n) (PutBack b' m) field can can' fits front has far op =
+      subst (λ (l : List ℕ). record_begins field + record_size l field ≤ length (record_bytes (h, PutBack b' m))) (sym (put_back_is_noted g b n))
+      (subst (λ (l : List ℕ). record_begins field + record_size (noted_bytes g 2 b n) field ≤ length l) (sym (put_back_is_noted h b' m))
+      (noted_reach g h 2 2 b b' n m field can can' (subst (λ (l : List ℕ). HasAt bytes at (take (record_begins field) l)) (put_back_is_noted g b n) front) (subst (HasAt bytes at) (put_back_is_noted h b' m) has)))
+  same_reach g h Take d field can can' fits front has far op = absurd (omega (arith, fits, far.1, take_record_size g))
+  same_reach g h c d field can can' fits front has far op = absurd (omega (arith, op))
+
   reach : (g h : ℕ) (c d : Change) (field : RecordField) → CanStand c → CanStand d → record_begins field + record_size (record_bytes (g, c)) field ≤ length (record_bytes (g, c))
       → HasAt bytes at (take (record_begins field) (record_bytes (g, c))) → HasAt bytes at (record_bytes (h, d)) → (1 < record_begins field) × (3 ≤ record_begins field + record_size (record_bytes (g, c)) field)
       → record_begins field + record_size (record_bytes (g, c)) field ≤ length (record_bytes (h, d))
-  reach g h Take d field can can' fits front has far = absurd (omega (arith, fits, far.1, take_record_size g))
-  reach g h (Push b n) Take field can can' fits front has far = absurd (no_both bytes at (operation_front g b n (record_begins field) far.0 front) (take_operation bytes at h has))
-  reach g h (Push b n) (Push b' m) field can can' fits front has far = ⊎_elim
-      (λ small. omega (arith, small, push_record_size h b' m))
-      (λ is.
-      let there = length_front g b n (subst (λ (f : RecordField). HasAt bytes at (take (record_begins f) (record_bytes (g, Push b n)))) is front) in
-      let same = length_is bytes at (length n.text) (length m.text) can.text can'.text there (length_at bytes at h b' m has) in
-      let size : record_begins field + record_size (record_bytes (g, Push b n)) field ≡ 20 + (length (record_bytes (g, Push b n)) - 20) = ap (λ (f : RecordField). record_begins f + record_size (record_bytes (g, Push b n)) f) is in
-      omega (arith, size, same, push_record_size g b n, push_record_size h b' m))
-      (before_text (record_bytes (g, Push b n)) field)
+  reach g h c d field can can' fits front has far =
+      same_reach g h c d field can can' fits front has far (one_byte_is bytes (at + 1) (operation c) (operation d) (operation_front g c (record_begins field) far.0 front) (operation_at bytes at h d has))
 
 module _ (bytes : List ℕ) (at stop place : ℕ) where
   -- a closed gate is the end of the records, and no fault
@@ -129,28 +148,44 @@ module _ (bytes : List ℕ) (at stop place : ℕ) where
       not_missing bytes at stop place (record_bytes r) has within (omega (arith, e.ends.low)) (omega (arith, e.ends.high, far, size)) e.ends.missing
   record_is_whole r opened can has within (inr w) = w.none (record_bytes r) (r, opened, can, refl) (front_of bytes at (record_begins w.field + record_size w.text w.field) (record_bytes r) has)
 
+module _ (bytes : List ℕ) (at stop : ℕ) (notes : List Note) (place : ℕ) where
+  -- the end of the records is no fault, whatever the notes are
+  pub end_is_whole : HasAt bytes at (0 ∷ []) → at < stop → NoChange bytes at stop notes place → ⊥
+  end_is_whole closed within (inl none) = closed_is_whole bytes at stop place closed within none
+  end_is_whole closed within (inr wrong) = shut bytes at wrong.read wrong.opened wrong.there closed
+
+  -- and a record isn't that may follow
+  pub change_is_whole : (r : Record) → 0 < r.0 → CanStand r.1 → may_follow r.1 notes ≡ true → HasAt bytes at (record_bytes r) → at + length (record_bytes r) ≤ stop → NoChange bytes at stop notes place → ⊥
+  change_is_whole r opened can may has within (inl none) = record_is_whole bytes at stop place r opened can has within none
+  change_is_whole r opened can may has within (inr wrong) =
+      let same : wrong.read ≡ r = one_record bytes at wrong.read r wrong.can can wrong.there has in
+      let both : false ≡ true = sym wrong.may_not ∙ ap (λ (q : Record). may_follow q.1 notes) same ∙ may in
+      absurd cc
+
 -- ---- the records of a half
 
-module _ (bytes : List ℕ) (stop place : ℕ) where
-  half_is_whole : (start : ℕ) (rs qs : List Record) → Stand rs → Stand qs → HasAt bytes start (spelled rs ++ 0 ∷ []) → start + length (spelled rs) < stop → HasAt bytes start (spelled qs ++ [])
-      → NoRecord bytes (start + length (spelled qs)) stop place → ⊥
-  half_is_whole start [] [] stand stand' this within that none = closed_is_whole bytes start stop place this (omega (arith, within)) (subst (λ (at : ℕ). NoRecord bytes at stop place) (omega arith) none)
-  half_is_whole start [] (q ∷ qs) stand stand' this within that none = shut bytes start q stand'.0 (first_record bytes start q qs [] that) this
-  half_is_whole start (r ∷ rs) [] stand stand' this within that none =
-      record_is_whole bytes start stop place r stand.0 stand.1 (first_record bytes start r rs (0 ∷ []) this) (omega (arith, within, length-append (record_bytes r) (spelled rs))) (subst (λ (at : ℕ). NoRecord bytes at stop place) (omega arith) none)
-  half_is_whole start (r ∷ rs) (q ∷ qs) stand stand' this within that none =
+module _ (bytes : List ℕ) (capacity stop place : ℕ) where
+  half_is_whole : (start : ℕ) (ns : List Note) (rs qs : List Record) → Stand capacity ns rs → Stand capacity ns qs → HasAt bytes start (spelled rs ++ 0 ∷ []) → start + length (spelled rs) < stop → HasAt bytes start (spelled qs ++ [])
+      → NoChange bytes (start + length (spelled qs)) stop (replayed capacity ns qs) place → ⊥
+  half_is_whole start ns [] [] stand stand' this within that none = end_is_whole bytes start stop ns place this (omega (arith, within)) (subst (λ (at : ℕ). NoChange bytes at stop ns place) (omega arith) none)
+  half_is_whole start ns [] (q ∷ qs) stand stand' this within that none = shut bytes start q stand'.0 (first_record bytes start q qs [] that) this
+  half_is_whole start ns (r ∷ rs) [] stand stand' this within that none =
+      change_is_whole bytes start stop ns place r stand.0 stand.1 stand.2 (first_record bytes start r rs (0 ∷ []) this) (omega (arith, within, length-append (record_bytes r) (spelled rs))) (subst (λ (at : ℕ). NoChange bytes at stop ns place) (omega arith) none)
+  half_is_whole start ns (r ∷ rs) (q ∷ qs) stand stand' this within that none =
       let same : q ≡ r = one_record bytes start q r stand'.1 stand.1 (first_record bytes start q qs [] that) (first_record bytes start r rs (0 ∷ []) this) in
       let size = ap (λ (p : Record). length (record_bytes p)) same in
-      half_is_whole (start + length (record_bytes r)) rs qs stand.2 stand'.2
+      half_is_whole (start + length (record_bytes r)) (changed capacity r.1 ns) rs qs stand.3
+      (subst (λ (p : Record). Stand capacity (changed capacity p.1 ns) qs) same stand'.3)
       (other_records bytes start r rs (0 ∷ []) this)
       (omega (arith, within, length-append (record_bytes r) (spelled rs)))
       (subst (λ (p : Record). HasAt bytes (start + length (record_bytes p)) (spelled qs ++ [])) same (other_records bytes start q qs [] that))
-      (subst (λ (at : ℕ). NoRecord bytes at stop place) (omega (arith, size, length-append (record_bytes q) (spelled qs))) none)
+      (subst (λ (p : Record). NoChange bytes (start + length (record_bytes r) + length (spelled qs)) stop (replayed capacity (changed capacity p.1 ns) qs) place) same
+      (subst (λ (at : ℕ). NoChange bytes at stop (replayed capacity (changed capacity q.1 ns) qs) place) (omega (arith, size, length-append (record_bytes q) (spelled qs))) none))
 
 -- ---- whole texts
 
 module _ (bytes : List ℕ) (place : ℕ) where
-  head_is_whole : (s : Sizes) (selector : ℕ) → IsSize s → HasAt bytes 0 (head_bytes s selector) → NoHead bytes place → ⊥
+  pub head_is_whole : (s : Sizes) (selector : ℕ) → IsSize s → HasAt bytes 0 (head_bytes s selector) → NoHead bytes place → ⊥
   head_is_whole s selector size has (inl e) =
       let thirteen : length e.text ≡ 13 = ap length e.form.3 in
       not_missing bytes 0 13 place (head_bytes s selector) has (omega arith) (omega arith) (omega (arith, e.ends.high, e.fits, thirteen)) e.ends.missing
@@ -162,7 +197,8 @@ module _ (bytes : List ℕ) (place : ℕ) where
       let heads = one_head bytes none.s s none.selector stands.selector none.size stands.size none.head stands.shows.head in
       let start : half_start none.s none.selector ≡ half_start s stands.selector = λ i. half_start (heads.0 i) (heads.1 i) in
       let half : none.s.half ≡ s.half = ap (λ (z : Sizes). z.half) heads.0 in
-      half_is_whole bytes (half_start none.s none.selector + none.s.half) place (half_start none.s none.selector) stands.records none.behind.records stands.stand none.behind.stand
+      let capacity : s.capacity ≡ none.s.capacity = sym (ap (λ (z : Sizes). z.capacity) heads.0) in
+      half_is_whole bytes none.s.capacity (half_start none.s none.selector + none.s.half) place (half_start none.s none.selector) [] stands.records none.behind.records (subst (λ (k : ℕ). Stand k [] stands.records) capacity stands.stand) none.behind.stand
       (subst (λ (at : ℕ). HasAt bytes at (spelled stands.records ++ 0 ∷ [])) (sym start) stands.shows.text)
       (omega (arith, stands.shows.within, half))
       (subst (HasAt bytes (half_start none.s none.selector)) (sym (append-nil (spelled none.behind.records))) none.behind.there)

@@ -8,7 +8,8 @@ use Rattle.spool.specs.declared.note.Kind.TheVariants.{Event, Alarm}
 use Rattle.spool.specs.Full.{fitted}
 use Rattle.spool.specs.Limits.{most_capacity}
 use Rattle.spool_format.specs.declared.change.Change.{Change}
-use Rattle.spool_format.specs.declared.change.Change.TheVariants.{Push, Take}
+use Rattle.spool_format.specs.declared.change.Change.TheVariants.{Push, PutBack, Take}
+use Rattle.spool_format.specs.ByNumber.{may_put_back, placed}
 use Rattle.outside.specs.Disk.{HasAt, Each}
 
 -- ---- changes
@@ -16,6 +17,7 @@ use Rattle.outside.specs.Disk.{HasAt, Each}
 -- the notes after a change, of which there may be so many
 abbrev pub changed : ℕ → Change → List Note → List Note
 changed capacity (Push overwrite note) notes = fitted overwrite capacity (notes ++ note ∷ [])
+changed capacity (PutBack overwrite note) notes = fitted overwrite capacity (placed note notes)
 changed capacity Take notes = drop 1 notes
 
 -- a note that can be written
@@ -27,7 +29,14 @@ pub record Fits (note : Note) : Type 0 where
 -- a change whose note, if it has one, can be written
 abbrev pub CanStand : Change → Type 0
 CanStand (Push overwrite note) = Fits note
+CanStand (PutBack overwrite note) = Fits note
 CanStand Take = Unit {0}
+
+-- a change that may be made of these notes: a put back asks that their numbers rise and its own is another
+abbrev pub may_follow : Change → List Note → Bool
+may_follow (Push overwrite note) notes = true
+may_follow (PutBack overwrite note) notes = may_put_back note.number notes
+may_follow Take notes = true
 
 -- ---- records
 
@@ -46,6 +55,7 @@ note_head n = to_be_bytes w64 n.number ++ (kind_byte n.kind ∷ to_be_bytes w32 
 -- a record behind its gate
 unfoldable pub body : Change → List ℕ
 body (Push overwrite note) = 1 ∷ flag overwrite ∷ note_head note ++ note.text
+body (PutBack overwrite note) = 2 ∷ flag overwrite ∷ note_head note ++ note.text
 body Take = 3 ∷ []
 
 -- a gate, which is open where it isn't 0, and a change
@@ -58,10 +68,10 @@ record_bytes r = r.0 ∷ body r.1
 abbrev pub spelled : List Record → List ℕ
 spelled rs = flat_map record_bytes rs
 
--- each gate is open, and each change can stand
-abbrev pub Stand : List Record → Type 0
-Stand [] = Unit {0}
-Stand (r ∷ rs) = (0 < r.0) × CanStand r.1 × Stand rs
+-- each gate is open, and each change can stand and may be made of the notes that those before it give
+abbrev pub Stand : ℕ → List Note → List Record → Type 0
+Stand capacity notes [] = Unit {0}
+Stand capacity notes (r ∷ rs) = (0 < r.0) × CanStand r.1 × (may_follow r.1 notes ≡ true) × Stand capacity (changed capacity r.1 notes) rs
 
 -- the notes after the changes of these records, the first of them first
 abbrev pub replayed : ℕ → List Note → List Record → List Note
@@ -103,13 +113,13 @@ pub record StandsFor (s : Sizes) (notes : List Note) (bytes : List ℕ) : Type 0
   pub selector : ℕ
   pub records : List Record
   pub shows : Shows s selector records bytes
-  pub stand : Stand records
+  pub stand : Stand s.capacity [] records
   pub notes_are : notes ≡ replayed s.capacity [] records
 
 -- what holds of a disk between two calls: each image shows the same records, which end at that place of the half and give these notes
 pub record Settled (s : Sizes) (selector end : ℕ) (notes : List Note) (images : List ℕ → Type 0) : Type 0 where
   pub records : List Record
-  pub stand : Stand records
+  pub stand : Stand s.capacity [] records
   pub notes_are : notes ≡ replayed s.capacity [] records
   pub end_is : end ≡ length (spelled records)
   pub shows : Each images (Shows s selector records)

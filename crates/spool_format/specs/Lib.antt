@@ -1,3 +1,5 @@
+pub mod Blocks
+pub mod ByNumber
 pub mod Faults
 pub mod Format
 pub mod Items

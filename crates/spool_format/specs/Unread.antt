@@ -1,9 +1,10 @@
 -- The first place at which bytes are not in the format (this tool's profile, durable spool).
-use Rattle.std.specs.Prelude.{◌≡◌, ◌⊎◌, ℕ, ◌+◌, ◌<◌, ◌≤◌, ◌-◌, Bool, List, [], ◌∷◌, length, take}
+use Rattle.std.specs.Prelude.{◌≡◌, ◌⊎◌, ℕ, ◌+◌, ◌<◌, ◌≤◌, ◌-◌, Bool, false, List, [], ◌∷◌, length, take}
 use Rattle.spool.specs.declared.note.Kind.{Kind}
+use Rattle.spool.specs.declared.note.Note.{Note}
 use Rattle.outside.specs.Disk.{HasAt}
 use Rattle.spool_format.specs.Runs.{IsMissing}
-use Rattle.spool_format.specs.Format.{CanStand, Record, Sizes, IsSize, Stand, flag, kind_byte, head_bytes, half_start, record_bytes, spelled}
+use Rattle.spool_format.specs.Format.{CanStand, may_follow, Record, Sizes, IsSize, Stand, replayed, flag, kind_byte, head_bytes, half_start, record_bytes, spelled}
 
 -- the first byte that is missing, of so many from a place on
 pub record EndsAt (bytes : List ℕ) (stop at size place : ℕ) : Type 0 where
@@ -131,18 +132,42 @@ IsCodedField AtText = ⊥
 abbrev pub NoRecord : List ℕ → ℕ → ℕ → ℕ → Type 0
 NoRecord bytes at stop place = Leaves IsRecord RecordField record_begins record_size IsCodedField bytes at stop place
 
--- behind the overwrite byte of a push, where its note begins: no such push stands there
+-- the operations of records with a note
+abbrev pub HasNote : ℕ → Type 0
+HasNote operation = (operation ≡ 1) ⊎ (operation ≡ 2)
+
+-- behind the overwrite byte of such a record, where its note begins: no such record stands there
 abbrev pub NoNote : List ℕ → ℕ → ℕ → ℕ → Type 0
-NoNote bytes at stop place = (start gate : ℕ) (overwrite : Bool) → at ≡ start + 3 → 0 < gate → HasAt bytes start (gate ∷ 1 ∷ flag overwrite ∷ []) → NoRecord bytes start stop place
+NoNote bytes at stop place =
+    (start gate operation : ℕ) (overwrite : Bool) → at ≡ start + 3 → 0 < gate → HasNote operation → HasAt bytes start (gate ∷ operation ∷ flag overwrite ∷ [])
+    → NoRecord bytes start stop place
+
+-- behind the operation of such a record: the same
+abbrev pub NoneBehind : List ℕ → ℕ → ℕ → ℕ → ℕ → Type 0
+NoneBehind bytes at operation stop place = (gate : ℕ) → 0 < gate → HasAt bytes at (gate ∷ operation ∷ []) → NoRecord bytes at stop place
+
+-- a record stands there whole, whose change may not be made of these notes; its place is its first byte
+pub record MayNotFollow (bytes : List ℕ) (at stop : ℕ) (notes : List Note) (place : ℕ) : Type 0 where
+  pub read : Record
+  pub opened : 0 < read.0
+  pub can : CanStand read.1
+  pub there : HasAt bytes at (record_bytes read)
+  pub within : at + length (record_bytes read) ≤ stop
+  pub may_not : may_follow read.1 notes ≡ false
+  pub place_is : place ≡ at
+
+-- no record stands there that may follow on those that give these notes
+abbrev pub NoChange : List ℕ → ℕ → ℕ → List Note → ℕ → Type 0
+NoChange bytes at stop notes place = NoRecord bytes at stop place ⊎ MayNotFollow bytes at stop notes place
 
 -- ---- whole texts
 
 -- records stand from the start of a half on, and behind them none does
-pub record NoRecordBehind (bytes : List ℕ) (start stop place : ℕ) : Type 0 where
+pub record NoRecordBehind (bytes : List ℕ) (capacity start stop place : ℕ) : Type 0 where
   pub records : List Record
-  pub stand : Stand records
+  pub stand : Stand capacity [] records
   pub there : HasAt bytes start (spelled records)
-  pub here : NoRecord bytes (start + length (spelled records)) stop place
+  pub here : NoChange bytes (start + length (spelled records)) stop (replayed capacity [] records) place
 
 -- the same in the half that the head names
 pub record NoHalf (bytes : List ℕ) (place : ℕ) : Type 0 where
@@ -150,7 +175,7 @@ pub record NoHalf (bytes : List ℕ) (place : ℕ) : Type 0 where
   pub selector : ℕ
   pub size : IsSize s
   pub head : HasAt bytes 0 (head_bytes s selector)
-  pub behind : NoRecordBehind bytes (half_start s selector) (half_start s selector + s.half) place
+  pub behind : NoRecordBehind bytes s.capacity (half_start s selector) (half_start s selector + s.half) place
 
 -- the bytes from this place on are not in the format
 abbrev pub IsUnread : List ℕ → ℕ → Type 0

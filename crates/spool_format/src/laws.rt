@@ -14,3 +14,8 @@ pub fn bytes_stand_for_one_spool()
 pub fn unread_bytes_stand_for_nothing()
     ensures { (bytes : List ℕ) (place : ℕ) (s : Sizes) (notes : List Note) → IsUnread bytes place → StandsFor s notes bytes → ⊥ }
 {}
+
+/// Bytes leave the format at one place only.
+pub fn bytes_leave_the_format_at_one_place()
+    ensures { (bytes : List ℕ) (place other : ℕ) → IsUnread bytes place → IsUnread bytes other → place ≡ other }
+{}

@@ -1,15 +1,15 @@
 //! Reading a disk: its sizes, and the notes that its records give.
 
-ghost use Rattle.std.specs.Prelude.{true, ◌≡◌, ◌++◌, ◌∷◌, [], ◌+◌, ◌*◌, ◌^◌, ◌<◌, ◌≤◌, ℕ, List, length, IfOk, OnOk, OnErr, IfErr, IfSome, IfNone};
+ghost use Rattle.std.specs.Prelude.{true, ◌≡◌, ◌++◌, ◌∷◌, [], ◌+◌, ◌*◌, ◌^◌, ◌<◌, ◌≤◌, ℕ, List, length, IfOk, OnOk, OnErr, IfErr, IfSome, IfNone, IsTrue, IsFalse};
 ghost use Rattle.std.specs.List.{All};
 ghost use Rattle.outside.specs.Counts.{Rose};
 ghost use Rattle.outside.specs.Disk.{Each, HasAt};
 ghost use Rattle.spool_format.specs.Faults.{Told};
-ghost use Rattle.spool_format.specs.Format.{Fits, CanStand, IsSize, changed, head_bytes};
-ghost use Rattle.spool_format.specs.Items.{StandsAt, FitsItem, change_size, item_size, IsStep, IsReadTo};
+ghost use Rattle.spool_format.specs.Format.{Fits, CanStand, IsSize, changed, head_bytes, may_follow};
+ghost use Rattle.spool_format.specs.Items.{StandsAt, StandsBehind, FitsItem, noted, change_size, item_size, IsStep, IsReadTo};
 ghost use Rattle.spool_format.specs.Place.{sizes, IsAt};
 ghost use Rattle.spool_format.specs.Runs.{Quiet};
-ghost use Rattle.spool_format.specs.Unread.{NoRecord, NoRecordBehind, NoHead, IsUnread};
+ghost use Rattle.spool_format.specs.Unread.{HasNote, NoRecord, NoneBehind, NoChange, NoRecordBehind, NoHead, IsUnread};
 
 use crate::change::Change;
 use crate::fault::NvFault;
@@ -17,7 +17,51 @@ use crate::place::{Place, half_start, is_capacity, is_half};
 use crate::queue::NoteQueue;
 use crate::reading::{byte_at, flag_at, note_at, u32_at, u64_at};
 use outside::Disk;
+use spool::Note;
 use std::alloc::Global;
+
+// Whether a record of this operation has a note.
+fn has_note(operation: u8) -> bool
+    ensures yes { IsTrue result → HasNote operation }
+    ensures no { IsFalse result → HasNote operation → ⊥ }
+{
+    operation == 1 || operation == 2
+}
+
+// The change that a record of an operation makes, 1 or 2.
+fn noted(operation: u8, overwrite: bool, note: Note) -> Change
+    ensures { result ≡ noted operation overwrite note }
+{
+    if operation == 1 {
+        Change::Push(overwrite, note)
+    } else {
+        Change::PutBack(overwrite, note)
+    }
+}
+
+// The change of a record of an operation with a note, whose gate and operation stand at a place.
+fn noted_at<D: Disk>(
+    alloc: Global,
+    disk: &mut D,
+    at: u64,
+    operation: u8,
+    stop: u64,
+) -> Result<Change, NvFault>
+    requires far { at < 2 ^ 48 }
+    requires before { at + 2 ≤ stop }
+    requires operation { HasNote operation }
+    ensures there { IfOk result (λ change. D.tells disk.old ≡ true → StandsBehind (D.reads disk.old) at operation change) }
+    ensures fits { IfOk result CanStand }
+    ensures before { IfOk result (λ change. at + change_size change ≤ stop) }
+    ensures fault { IfErr result (Told (Rose (D.faults disk.old) (D.faults disk.new)) (λ place. D.tells disk.old ≡ true → NoneBehind (D.reads disk.old) at operation stop place)) }
+    ensures quiet { D.tells disk.old ≡ true → Quiet D.reads D.leaves D.moment D.left_since disk.old disk.new }
+    ensures tells { D.tells disk.new ≡ D.tells disk.old }
+    ensures faults_stay { D.faults disk.old ≤ D.faults disk.new }
+{
+    let overwrite = flag_at(disk, at + 2, stop)?;
+    let note = note_at(alloc, disk, at + 3, stop)?;
+    Ok(noted(operation, overwrite, note))
+}
 
 // What stands at a gate: a change, or the end of the records.
 fn item_at<D: Disk>(
@@ -40,15 +84,15 @@ fn item_at<D: Disk>(
     if gate == 0 {
         return Ok(None);
     }
-    match byte_at(disk, at + 1, stop)? {
-        1 => {
-            let overwrite = flag_at(disk, at + 2, stop)?;
-            let note = note_at(alloc, disk, at + 3, stop)?;
-            Ok(Some(Change::Push(overwrite, note)))
-        }
-        3 => Ok(Some(Change::Take)),
-        _ => Err(NvFault::Unread(at + 1)),
+    let operation = byte_at(disk, at + 1, stop)?;
+    if operation == 3 {
+        return Ok(Some(Change::Take));
     }
+    if !has_note(operation) {
+        return Err(NvFault::Unread(at + 1));
+    }
+    let change = noted_at(alloc, disk, at, operation, stop)?;
+    Ok(Some(change))
 }
 
 // How many bytes the record of a change has, with its gate.
@@ -58,8 +102,18 @@ fn size_of(change: &Change) -> u64
     ensures small { result ≤ 87020 }
 {
     match change {
-        Change::Push(_, note) => 20 + note.text.as_slice().len() as u64,
+        Change::Push(_, note) | Change::PutBack(_, note) => 20 + note.text.as_slice().len() as u64,
         Change::Take => 2,
+    }
+}
+
+// Whether a change may be made of the notes.
+fn may_follow(queue: &NoteQueue, change: &Change) -> bool
+    ensures { result ≡ may_follow change.now queue.now.notes }
+{
+    match change {
+        Change::PutBack(_, note) => queue.may_put_back(note.number),
+        Change::Push(..) | Change::Take => true,
     }
 }
 
@@ -70,6 +124,9 @@ fn make(queue: &mut NoteQueue, change: Change)
     match change {
         Change::Push(overwrite, note) => {
             queue.push(note, overwrite);
+        }
+        Change::PutBack(overwrite, note) => {
+            queue.put_back(note, overwrite);
         }
         Change::Take => {
             queue.take();
@@ -95,7 +152,7 @@ fn step<D: Disk>(
     ensures more_within { IfOk result (λ next. IfSome next (λ n. (at < n) × (n ≤ stop))) }
     ensures texts { All Fits queue.new.notes }
     ensures capacity { queue.new.capacity ≡ queue.old.capacity }
-    ensures fault { IfErr result (Told (Rose (D.faults disk.old) (D.faults disk.new)) (λ place. D.tells disk.old ≡ true → NoRecord (D.reads disk.old) at stop place)) }
+    ensures fault { IfErr result (Told (Rose (D.faults disk.old) (D.faults disk.new)) (λ place. D.tells disk.old ≡ true → NoChange (D.reads disk.old) at stop queue.old.notes place)) }
     ensures quiet { D.tells disk.old ≡ true → Quiet D.reads D.leaves D.moment D.left_since disk.old disk.new }
     ensures tells { D.tells disk.new ≡ D.tells disk.old }
     ensures faults_stay { D.faults disk.old ≤ D.faults disk.new }
@@ -103,6 +160,9 @@ fn step<D: Disk>(
     match item_at(alloc, disk, at, stop)? {
         None => Ok(None),
         Some(change) => {
+            if !may_follow(queue, &change) {
+                return Err(NvFault::Unread(at));
+            }
             let next = at + size_of(&change);
             make(queue, change);
             Ok(Some(next))
@@ -126,7 +186,7 @@ fn records<D: Disk>(
     ensures within { IfOk result (λ end. start + end < stop) }
     ensures texts { All Fits queue.new.notes }
     ensures capacity { queue.new.capacity ≡ queue.old.capacity }
-    ensures fault { IfErr result (Told (Rose (D.faults disk.old) (D.faults disk.new)) (λ place. D.tells disk.old ≡ true → NoRecordBehind (D.reads disk.old) start stop place)) }
+    ensures fault { IfErr result (Told (Rose (D.faults disk.old) (D.faults disk.new)) (λ place. D.tells disk.old ≡ true → NoRecordBehind (D.reads disk.old) queue.old.capacity start stop place)) }
     ensures quiet { D.tells disk.old ≡ true → Quiet D.reads D.leaves D.moment D.left_since disk.old disk.new }
     ensures tells { D.tells disk.new ≡ D.tells disk.old }
     ensures faults_stay { D.faults disk.old ≤ D.faults disk.new }

@@ -20,16 +20,16 @@ pub fn half_start(half: u64, selector: u8) -> u64
     if selector % 2 == 0 { 13 } else { 13 + half }
 }
 
-// Whether there may be so many notes.
-pub(crate) fn is_capacity(capacity: u32) -> bool
+/// Whether there may be so many notes.
+pub fn is_capacity(capacity: u32) -> bool
     ensures yes { IsTrue result → (1 ≤ capacity) × (capacity ≤ 65536) }
     ensures no { IsFalse result → (capacity < 1) ⊎ (65536 < capacity) }
 {
     capacity >= 1 && capacity <= 65_536
 }
 
-// Whether a half for so many notes may have so many bytes.
-pub(crate) fn is_half(capacity: u32, half: u64) -> bool
+/// Whether a half for so many notes may have so many bytes.
+pub fn is_half(capacity: u32, half: u64) -> bool
     ensures yes { IsTrue result → ((capacity + 1) * 87020 + 1 ≤ half) × (half < 2 ^ 40) }
     ensures no { IsFalse result → (half < (capacity + 1) * 87020 + 1) ⊎ (2 ^ 40 ≤ half) }
 {

@@ -145,7 +145,7 @@ fn text_at<D: Disk>(
     Ok(text)
 }
 
-// The note behind the overwrite byte of a push. Where there is none, the place is that of its first byte that is missing, or of its first
+// The note behind the overwrite byte of its record. Where there is none, the place is that of its first byte that is missing, or of its first
 // field that is wrong.
 pub(crate) fn note_at<D: Disk>(
     alloc: Global,

@@ -2,7 +2,7 @@
 
 ghost use Rattle.std.specs.Prelude.{◌≡◌, ◌++◌, ◌∷◌, [], ◌<◌, ◌≤◌, ◌^◌, length, IfOk};
 ghost use Rattle.spool_format.specs.Format.{note_head, kind_byte, body, flag};
-ghost use Rattle.spool_format.specs.declared.change.Change.TheVariants.{Push, Take};
+ghost use Rattle.spool_format.specs.declared.change.Change.TheVariants.{Push, PutBack, Take};
 
 use spool::{Kind, Note};
 use std::alloc::{AllocError, Global};
@@ -49,18 +49,40 @@ pub fn push_front(note: &Note) -> [u8; 20]
     ]
 }
 
+// A record of an operation with a note, behind its gate, and a closed gate.
+fn noted_text(
+    alloc: Global,
+    operation: u8,
+    note: &Note,
+    overwrite: bool,
+) -> Result<Vec<u8>, AllocError>
+    requires { length note.now.text ≤ 87000 }
+    ensures { IfOk result (λ text. text.items ≡ (operation ∷ flag overwrite ∷ note_head note.now ++ note.now.text) ++ 0 ∷ []) }
+{
+    let mut text = Vec::new(alloc);
+    text.extend_from_slice(&[operation, flag(overwrite)])?;
+    text.extend_from_slice(&note_head(note))?;
+    text.extend_from_slice(note.text.as_slice())?;
+    text.push(0)?;
+    Ok(text)
+}
+
 /// A push of a note behind its gate, and a closed gate. `AllocError` where there is no memory for it.
 #[tactic(auto, unfolding(crate::specs::Format::body))]
 pub fn push_text(alloc: Global, note: &Note, overwrite: bool) -> Result<Vec<u8>, AllocError>
     requires { length note.now.text ≤ 87000 }
     ensures { IfOk result (λ text. text.items ≡ body (Push overwrite note.now) ++ 0 ∷ []) }
 {
-    let mut text = Vec::new(alloc);
-    text.extend_from_slice(&[1, flag(overwrite)])?;
-    text.extend_from_slice(&note_head(note))?;
-    text.extend_from_slice(note.text.as_slice())?;
-    text.push(0)?;
-    Ok(text)
+    noted_text(alloc, 1, note, overwrite)
+}
+
+/// A put back of a note behind its gate, and a closed gate. `AllocError` where there is no memory for it.
+#[tactic(auto, unfolding(crate::specs::Format::body))]
+pub fn put_back_text(alloc: Global, note: &Note, overwrite: bool) -> Result<Vec<u8>, AllocError>
+    requires { length note.now.text ≤ 87000 }
+    ensures { IfOk result (λ text. text.items ≡ body (PutBack overwrite note.now) ++ 0 ∷ []) }
+{
+    noted_text(alloc, 2, note, overwrite)
 }
 
 /// A take behind its gate, and a closed gate.

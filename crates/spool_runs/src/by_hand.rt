@@ -34,15 +34,27 @@ fn one_of_two(bytes: &[u8], at: usize) -> Result<bool, usize> {
     }
 }
 
-// A record, with where the next one stands: nothing at the end, a note and whether it overwrites, or a take.
+// A note: its number, and the note in words.
+#[derive(Drop)]
+struct Noted {
+    number: u64,
+    words: String,
+}
+
+// A record: nothing at the end, a take, or a note with whether it is put back, whether it overwrites, and where the next record stands.
 #[derive(Drop)]
 enum Step {
     End,
     Taken,
-    Pushed(bool, String, usize),
+    Came(bool, bool, Noted, usize),
 }
 
-fn pushed_at(alloc: Global, bytes: &[u8], at: usize) -> Result<Result<Step, usize>> {
+fn came_at(
+    alloc: Global,
+    bytes: &[u8],
+    at: usize,
+    is_put_back: bool,
+) -> Result<Result<Step, usize>> {
     let overwrite = match one_of_two(bytes, at.saturating_add(2)) {
         Ok(overwrite) => overwrite,
         Err(place) => return Ok(Err(place)),
@@ -71,7 +83,8 @@ fn pushed_at(alloc: Global, bytes: &[u8], at: usize) -> Result<Result<Step, usiz
     match bytes.get(from..to) {
         Some(text) => {
             let words = words_of(alloc, number, is_alarm, id, text)?;
-            Ok(Ok(Step::Pushed(overwrite, words, to)))
+            let note = Noted { number, words };
+            Ok(Ok(Step::Came(is_put_back, overwrite, note, to)))
         }
         None => Ok(Err(bytes.len())),
     }
@@ -85,7 +98,8 @@ fn step_at(alloc: Global, bytes: &[u8], at: usize) -> Result<Result<Step, usize>
     }
     let operation = at.saturating_add(1);
     match number_at(bytes, operation, 1) {
-        Ok(1) => pushed_at(alloc, bytes, at),
+        Ok(1) => came_at(alloc, bytes, at, false),
+        Ok(2) => came_at(alloc, bytes, at, true),
         Ok(3) => Ok(Ok(Step::Taken)),
         Ok(_) => Ok(Err(operation)),
         Err(place) => Ok(Err(place)),
@@ -93,12 +107,67 @@ fn step_at(alloc: Global, bytes: &[u8], at: usize) -> Result<Result<Step, usize>
 }
 
 // Takes the oldest away.
-fn drop_oldest(notes: Vec<String>, alloc: Global) -> Result<Vec<String>> {
+fn drop_oldest(notes: Vec<Noted>, alloc: Global) -> Result<Vec<Noted>> {
     let mut left = Vec::new(alloc);
     for note in notes.into_iter().skip(1) {
         left.push(note)?;
     }
     Ok(left)
+}
+
+// Whether the numbers rise, and this is none of them.
+fn may_put_back(notes: &[Noted], number: u64) -> bool {
+    let mut before: Option<u64> = None;
+    for note in notes.iter() {
+        if note.number == number || before.is_some_and(|before| before >= note.number) {
+            return false;
+        }
+        before = Some(note.number);
+    }
+    true
+}
+
+// The notes that have a lesser number than this one, the note, and the others.
+fn put_back(notes: Vec<Noted>, one: Noted, alloc: Global) -> Result<Vec<Noted>> {
+    let number = one.number;
+    let mut lesser = Vec::new(alloc);
+    let mut greater = Vec::new(alloc);
+    for note in notes {
+        if note.number < number {
+            lesser.push(note)?;
+        } else {
+            greater.push(note)?;
+        }
+    }
+    lesser.push(one)?;
+    for note in greater {
+        lesser.push(note)?;
+    }
+    Ok(lesser)
+}
+
+// The notes with one that came, by the rule of a full spool.
+fn with_one(
+    alloc: Global,
+    notes: Vec<Noted>,
+    step: (bool, bool, Noted),
+    capacity: usize,
+) -> Result<Vec<Noted>> {
+    let (is_put_back, overwrite, one) = step;
+    let mut all = notes;
+    if is_put_back {
+        all = put_back(all, one, alloc)?;
+    } else {
+        all.push(one)?;
+    }
+    if all.len() <= capacity {
+        return Ok(all);
+    }
+    if overwrite {
+        return drop_oldest(all, alloc);
+    }
+    all.pop();
+    Ok(all)
 }
 
 // The notes that the records from a place on give.
@@ -107,8 +176,8 @@ fn notes_from(
     bytes: &[u8],
     start: usize,
     capacity: usize,
-) -> Result<Result<Vec<String>, usize>> {
-    let mut notes: Vec<String> = Vec::new(alloc);
+) -> Result<Result<Vec<Noted>, usize>> {
+    let mut notes: Vec<Noted> = Vec::new(alloc);
     let mut at = start;
     for _ in 0..bytes.len() {
         match step_at(alloc, bytes, at)? {
@@ -118,13 +187,11 @@ fn notes_from(
                 notes = drop_oldest(notes, alloc)?;
                 at = at.saturating_add(2);
             }
-            Ok(Step::Pushed(overwrite, words, next)) => {
-                if notes.len() < capacity || overwrite {
-                    notes.push(words)?;
+            Ok(Step::Came(is_put_back, overwrite, note, next)) => {
+                if is_put_back && !may_put_back(&notes, note.number) {
+                    return Ok(Err(at));
                 }
-                if notes.len() > capacity {
-                    notes = drop_oldest(notes, alloc)?;
-                }
+                notes = with_one(alloc, notes, (is_put_back, overwrite, note), capacity)?;
                 at = next;
             }
         }
@@ -164,7 +231,7 @@ pub fn read(alloc: Global, bytes: &[u8]) -> Result<ByHand> {
         Ok(notes) => {
             let mut words = format!(in alloc; "half {half}")?;
             for note in notes.iter() {
-                write!(words, "; {note}")?;
+                write!(words, "; {}", note.words)?;
             }
             Ok(ByHand::Notes(words))
         }

@@ -1,7 +1,8 @@
 //! A durable spool over a disk in memory, which each line opens anew.
 //!
 //! `format 2 261061` makes the disk stand for no notes. `push keep 1 event 211 0100` and `push over ..` push a note, and tell whether it was
-//! kept, or which was dropped; `take` tells the note that left, or `none`. `list` tells the size of a half and the notes, or what the disk is
+//! kept, or which was dropped; `back keep ..` and `back over ..` put one back to its place by number, and tell that too, or that it `may not`
+//! be; `take` tells the note that left, or `none`. `list` tells the size of a half and the notes, or what the disk is
 //! refused for; it is the same by the crates and by hand. `bytes 13 25` tells so many bytes from a place on, `size` how many the disk has,
 //! and `cut 40`, `set 13 01FF` change them.
 //!
@@ -76,6 +77,37 @@ fn push<D: Disk + Drop>(alloc: Global, spool: &mut NvSpool<D>, said: &[&str]) ->
     }
 }
 
+// What a put back did, in words.
+fn put_back_words(alloc: Global, pushed: &Pushed) -> Result<String> {
+    match pushed {
+        Pushed::Kept => Ok(String::from_str(alloc, "kept")?),
+        Pushed::DroppedOldest(note) => Ok(format!(in alloc; "dropped the least, {}", note.number)?),
+        Pushed::DroppedNewest(note) => {
+            Ok(format!(in alloc; "dropped the greatest, {}", note.number)?)
+        }
+    }
+}
+
+fn put_back<D: Disk + Drop>(
+    alloc: Global,
+    spool: &mut NvSpool<D>,
+    said: &[&str],
+) -> Result<String> {
+    let overwrite = word(said, 1)? == "over";
+    match note_of(alloc, said, 2)? {
+        Some(note) if note.text.as_slice().len() <= 87_000 => {
+            if !spool.notes().may_put_back(note.number) {
+                return Ok(String::from_str(alloc, "may not")?);
+            }
+            match spool.put_back(note, overwrite) {
+                Ok(pushed) => put_back_words(alloc, &pushed),
+                Err(fault) => fault_words(alloc, fault),
+            }
+        }
+        _ => bail!("a text has at most 87,000 bytes"),
+    }
+}
+
 fn take<D: Disk + Drop>(alloc: Global, spool: &mut NvSpool<D>) -> Result<String> {
     match spool.take() {
         Ok(Some(note)) => note_words(alloc, &note),
@@ -88,6 +120,7 @@ fn take<D: Disk + Drop>(alloc: Global, spool: &mut NvSpool<D>) -> Result<String>
 fn make<D: Disk + Drop>(alloc: Global, spool: &mut NvSpool<D>, said: &[&str]) -> Result<String> {
     match word(said, 0)? {
         "push" => push(alloc, spool, said),
+        "back" => put_back(alloc, spool, said),
         "take" => take(alloc, spool),
         _ => bail!("it is no change"),
     }
@@ -200,7 +233,7 @@ impl Subject for Durable {
     fn answer(&mut self, alloc: Global, said: &str) -> Result<String> {
         let said = words(alloc, said)?;
         match word(&said, 0)? {
-            "format" | "push" | "take" => self.change(alloc, &said),
+            "format" | "push" | "back" | "take" => self.change(alloc, &said),
             "list" => listed(alloc, &self.bytes),
             "bytes" => self.shown(alloc, &said),
             "size" => Ok(format!(in alloc; "{}", self.bytes.len())?),

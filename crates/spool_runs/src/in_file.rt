@@ -1,6 +1,6 @@
 //! A durable spool in a file, which each line opens anew.
 //!
-//! `format`, `push`, `take` and `list` are as of one in memory, and `list` reads the file by hand too. `remove` removes the file, and `nowhere`
+//! `format`, `push`, `back`, `take` and `list` are as of one in memory, and `list` reads the file by hand too. `remove` removes the file, and `nowhere`
 //! tells what a file in a folder that isn't there is refused for, with its faults.
 
 use crate::durable::{changed, listed_beside};
@@ -54,7 +54,7 @@ impl Subject for InFile<'_> {
     fn answer(&mut self, alloc: Global, said: &str) -> Result<String> {
         let said = words(alloc, said)?;
         match word(&said, 0)? {
-            "format" | "push" | "take" => self.change(alloc, &said),
+            "format" | "push" | "back" | "take" => self.change(alloc, &said),
             "list" => self.list(alloc),
             "remove" => self.remove(alloc),
             "nowhere" => nowhere(self.rt, alloc),

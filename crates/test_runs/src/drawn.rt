@@ -126,8 +126,7 @@ fn play_both<O: Tools>(
     }
 }
 
-// Plays the lot of a seed. The tool that it is played to has one or two chambers and ports, which are drawn, begins COMMUNICATING
-// and ON-LINE, and knows the recipe R1.
+// Plays the lot of a seed. The tool that it is played to has one to eight chambers and one to four ports, which are drawn.
 fn play<O: Tools>(
     tools: &O,
     alloc: Global,
@@ -137,9 +136,9 @@ fn play<O: Tools>(
     answer: &mut String,
 ) -> Option<Counts> {
     let mut last = seed;
-    let chambers = up_to(&mut last, 2);
+    let chambers = up_to(&mut last, 8);
     let ports = ports_of(shape, &mut last);
-    match tool_of(tools, alloc, chambers, ports) {
+    match plant_of(tools, alloc, chambers, ports) {
         Some(tool) => {
             let mut played = Played::new(alloc, tool, last, ports);
             let counts = played.plays(alloc, shape, is_disturbed);
@@ -150,13 +149,10 @@ fn play<O: Tools>(
 }
 
 // A tool with so many chambers and ports.
-fn tool_of<O: Tools>(tools: &O, alloc: Global, chambers: u64, ports: u64) -> Option<O::Tool> {
-    let text = format!(in alloc;
-        "communication = \"communicating\"\nchambers = {chambers}\nports = {ports}\n"
-    );
-    match text {
-        Ok(text) => tools.opened(alloc, text.as_str()),
-        Err(_) => None,
+fn plant_of<O: Tools>(tools: &O, alloc: Global, chambers: u64, ports: u64) -> Option<O::Tool> {
+    match (u8::try_from(chambers), u8::try_from(ports)) {
+        (Ok(chambers), Ok(ports)) => tools.with_plant(alloc, chambers, ports),
+        _ => None,
     }
 }
 

@@ -25,11 +25,11 @@ pub(crate) fn up_to(last: &mut u64, most: u64) -> u64 {
         .saturating_add(1)
 }
 
-/// How many ports a tool of this shape has; one or two is drawn where one does.
+/// How many ports a tool of this shape has, at most 4, which is drawn: as many at least as carriers come.
 pub(crate) fn ports_of(shape: Shape, last: &mut u64) -> u64 {
     match shape {
-        Shape::One | Shape::Shared => up_to(last, 2),
-        Shape::Each | Shape::Both => 2,
+        Shape::One | Shape::Shared => up_to(last, 4),
+        Shape::Each | Shape::Both => up_to(last, 3).saturating_add(1),
     }
 }
 
@@ -61,26 +61,23 @@ fn push_material(words: &mut String, port: u64, from: u64, last: u64) -> bool {
         && words.push_str("]]").is_ok()
 }
 
-// The name of the carrier of a port, 1 or 2.
-fn carrier_of(port: u64) -> &'static [u8] {
-    if port == 1 { b"CAR1" } else { b"CAR2" }
+// Adds all of the carrier of a port, as the material of a job.
+fn push_all(words: &mut String, port: u64) -> bool {
+    write!(words, "L[A CAR{port}, L[]]").is_ok()
 }
 
-// The message by which the host proceeds with the carrier of a port.
-fn proceed_of(port: u64) -> &'static str {
-    if port == 1 {
-        "S3F17 W 3 L[U4 0, A ProceedWithCarrier, A CAR1, U1 1, L[]]"
-    } else {
-        "S3F17 W 3 L[U4 0, A ProceedWithCarrier, A CAR2, U1 2, L[]]"
+// Adds all of the carriers of two ports.
+fn push_both(words: &mut String, first: u64, second: u64) -> bool {
+    push_all(words, first) && words.push_str(", ").is_ok() && push_all(words, second)
+}
+
+// The name of the carrier of a port.
+fn carrier_of(alloc: Global, port: u64) -> Option<Text80> {
+    match format!(in alloc; "CAR{port}") {
+        Ok(name) => Text80::read(name.as_bytes()).ok(),
+        Err(_) => None,
     }
 }
-
-// All of the carriers of a port, and of both, as the material of a job.
-const FIRST: &str = "L[A CAR1, L[]]";
-
-const SECOND: &str = "L[A CAR2, L[]]";
-
-const BOTH: &str = "L[A CAR1, L[]], L[A CAR2, L[]]";
 
 // The messages that create a process job over the material that stands between what begins and what ends them. It starts by itself.
 const FIRST_JOB: &str = "S16F11 W 4 L[U4 0, A PJ1, B 0D, L[";
@@ -103,10 +100,10 @@ fn control_job(shape: Shape) -> &'static str {
     }
 }
 
-// The signal by which a carrier of this name with so many substrates comes to a port, 1 or 2.
-fn placed(port: u64, name: Text80, substrates: u64) -> Event {
+// The signal by which a carrier of this name with so many substrates comes to a port.
+fn placed(port: u8, name: Text80, substrates: u64) -> Event {
     Event::Signal(Signal::Placed {
-        port: PortNo(if port == 1 { 1 } else { 2 }),
+        port: PortNo(port),
         id: CarrierId::read(name),
         map: map_of(substrates),
     })
@@ -115,16 +112,21 @@ fn placed(port: u64, name: Text80, substrates: u64) -> Event {
 impl<T: Tool> Played<T> {
     // A carrier with so many substrates comes to a port.
     fn place(&mut self, alloc: Global, port: u64, substrates: u64) -> bool {
-        match Text80::read(carrier_of(port)) {
-            Ok(name) => self.post(alloc, placed(port, name, substrates)),
-            Err(_) => false,
+        match (u8::try_from(port), carrier_of(alloc, port)) {
+            (Ok(port), Some(name)) => self.post(alloc, placed(port, name, substrates)),
+            _ => false,
         }
     }
 
     // The host proceeds with the carrier of a port, for its id and for its slot map.
     fn proceed(&mut self, alloc: Global, port: u64) -> bool {
-        let words = proceed_of(port);
-        self.send(alloc, words) && self.send(alloc, words)
+        let words = format!(in alloc;
+            "S3F17 W 3 L[U4 0, A ProceedWithCarrier, A CAR{port}, U1 {port}, L[]]"
+        );
+        match words {
+            Ok(words) => self.send(alloc, words.as_str()) && self.send(alloc, words.as_str()),
+            Err(_) => false,
+        }
     }
 
     // A carrier comes to a port, and the host proceeds with it. How many substrates it has is drawn, and given.
@@ -145,6 +147,12 @@ impl<T: Tool> Played<T> {
         }
     }
 
+    // The same over all of the carrier of a port.
+    fn create_over_all(&mut self, alloc: Global, job: &str, port: u64) -> bool {
+        let mut material = String::new(alloc);
+        push_all(&mut material, port) && self.create(alloc, job, material.as_str())
+    }
+
     // The same over these slots of the carrier of a port.
     fn create_over(&mut self, alloc: Global, job: &str, port: u64, from: u64, last: u64) -> bool {
         let mut material = String::new(alloc);
@@ -153,9 +161,8 @@ impl<T: Tool> Played<T> {
 
     fn begin_one(&mut self, alloc: Global) -> Option<u64> {
         let port = up_to(&mut self.last, self.ports);
-        let material = if port == 1 { FIRST } else { SECOND };
         match self.receive(alloc, port) {
-            Some(substrates) if self.create(alloc, FIRST_JOB, material) => Some(substrates),
+            Some(substrates) if self.create_over_all(alloc, FIRST_JOB, port) => Some(substrates),
             _ => None,
         }
     }
@@ -176,31 +183,49 @@ impl<T: Tool> Played<T> {
         }
     }
 
-    // Two carriers come, and give how many substrates they have.
-    fn receive_two(&mut self, alloc: Global) -> Option<u64> {
-        let Some(first) = self.receive(alloc, 1) else {
+    // Two ports: one that is drawn, and the next, which is port 1 behind the last.
+    fn two_ports(&mut self) -> (u64, u64) {
+        let first = up_to(&mut self.last, self.ports);
+        if first < self.ports {
+            (first, first.saturating_add(1))
+        } else {
+            (first, 1)
+        }
+    }
+
+    // Two carriers come to these ports, and give how many substrates they have.
+    fn receive_two(&mut self, alloc: Global, first: u64, second: u64) -> Option<u64> {
+        let Some(substrates) = self.receive(alloc, first) else {
             return None;
         };
-        match self.receive(alloc, 2) {
-            Some(second) => Some(first.saturating_add(second)),
+        match self.receive(alloc, second) {
+            Some(more) => Some(substrates.saturating_add(more)),
             None => None,
         }
     }
 
-    fn create_each(&mut self, alloc: Global) -> bool {
-        self.create(alloc, FIRST_JOB, FIRST) && self.create(alloc, SECOND_JOB, SECOND)
+    fn create_each(&mut self, alloc: Global, first: u64, second: u64) -> bool {
+        self.create_over_all(alloc, FIRST_JOB, first)
+            && self.create_over_all(alloc, SECOND_JOB, second)
     }
 
     fn begin_each(&mut self, alloc: Global) -> Option<u64> {
-        match self.receive_two(alloc) {
-            Some(substrates) if self.create_each(alloc) => Some(substrates),
+        let (first, second) = self.two_ports();
+        match self.receive_two(alloc, first, second) {
+            Some(substrates) if self.create_each(alloc, first, second) => Some(substrates),
             _ => None,
         }
     }
 
+    fn create_both(&mut self, alloc: Global, first: u64, second: u64) -> bool {
+        let mut material = String::new(alloc);
+        push_both(&mut material, first, second) && self.create(alloc, FIRST_JOB, material.as_str())
+    }
+
     fn begin_both(&mut self, alloc: Global) -> Option<u64> {
-        match self.receive_two(alloc) {
-            Some(substrates) if self.create(alloc, FIRST_JOB, BOTH) => Some(substrates),
+        let (first, second) = self.two_ports();
+        match self.receive_two(alloc, first, second) {
+            Some(substrates) if self.create_both(alloc, first, second) => Some(substrates),
             _ => None,
         }
     }

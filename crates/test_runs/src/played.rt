@@ -205,9 +205,9 @@ impl<T: Tool> Played<T> {
         }
     }
 
-    // All modules fetch.
+    // All modules fetch, of which there are ten at most.
     fn fetch_each(&mut self, alloc: Global) -> bool {
-        for module in 1..5 {
+        for module in 1..11 {
             if !self.fetch(alloc, ModuleId(module)) {
                 return false;
             }
@@ -239,7 +239,7 @@ impl<T: Tool> Played<T> {
     /// Looks at what is on the arm, at the aligner and in the chambers. It is wanted that nothing is there twice.
     pub(crate) fn look(&mut self, alloc: Global) -> bool {
         self.outside.clear();
-        for variable in [12, 13, 21, 22] {
+        for variable in [12, 13, 21, 22, 23, 24, 25, 26, 27, 28] {
             if !self.look_at(alloc, variable) {
                 return false;
             }

@@ -96,7 +96,7 @@ impl<T: Tool> Played<T> {
 
     // The first substrate outside its slot that can be lost is. Tells whether there is one.
     fn lose_first(&mut self, alloc: Global) -> Option<bool> {
-        for place in 0..4 {
+        for place in 0..10 {
             let Some(name) = self.outside.get(place).copied() else {
                 return Some(false);
             };

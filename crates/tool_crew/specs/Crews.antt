@@ -7,7 +7,7 @@ use Rattle.shared_tool.specs.declared.posted.Posted.{Posted}
 use Rattle.shared_tool.specs.declared.shared.Shared.{Shared}
 use Rattle.actors.specs.declared.end.ActorEnd.{ActorEnd}
 use Rattle.actors.specs.declared.end.ActorEnd.TheVariants as end
-use Rattle.actors.specs.ScriptReads.{SourceTold}
+use Rattle.source_lines.specs.Reads.{SourceTold}
 use Rattle.actors.specs.Times.{TimeDid}
 use Rattle.host_actor.specs.declared.bytes.SessionBytes.{SessionBytes}
 use Rattle.host_actor.specs.Links.{LinkTold, DoorTold}

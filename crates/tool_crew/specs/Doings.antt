@@ -6,7 +6,7 @@ use Rattle.tool_events.specs.declared.entry.Post.{Post}
 use Rattle.sim_modules.specs.Acting.{Acting, begun}
 use Rattle.actors.specs.declared.end.ActorEnd.{ActorEnd}
 use Rattle.actors.specs.Operates.{OperatorDid}
-use Rattle.actors.specs.ScriptReads.{SourceTold}
+use Rattle.source_lines.specs.Reads.{SourceTold}
 use Rattle.actors.specs.Modules.{ModuleDid}
 use Rattle.actors.specs.Times.{TimeDid}
 use Rattle.host_actor.specs.declared.bytes.SessionBytes.{SessionBytes}

@@ -2,7 +2,7 @@
 ghost use Rattle.std.specs.Prelude.{◌≡◌, ◌≢◌, ◌+◌, ◌≤◌, length};
 ghost use Rattle.std.specs.Thread.{IsSync};
 ghost use Rattle.actors.specs.declared.end.ActorEnd.TheVariants as end;
-ghost use Rattle.actors.specs.ScriptReads.{source_told};
+ghost use Rattle.source_lines.specs.Reads.{source_told};
 ghost use Rattle.host_actor.specs.Links.{link_told, door_told};
 ghost use Rattle.tool_crew.specs.Doings.{Operated, TimeWent, Worked};
 ghost use Rattle.tool_crew.specs.Seating.{IsOf, Stays, posts_in, HostWorked, AllOf, AllWorked};

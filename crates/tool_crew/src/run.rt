@@ -1,7 +1,7 @@
 //! The whole run.
 ghost use Rattle.std.specs.Prelude.{◌≡◌, ◌≤◌, length, IfOk, OnErr};
 ghost use Rattle.tool_events.specs.Configs.{IsConfig};
-ghost use Rattle.actors.specs.ScriptReads.{source_told};
+ghost use Rattle.source_lines.specs.Reads.{source_told};
 ghost use Rattle.host_actor.specs.Links.{link_told, door_told};
 ghost use Rattle.tool_crew.specs.Seating.{AllOf};
 ghost use Rattle.tool_crew.specs.Crews.{outside, AreEnds, CrewDid};

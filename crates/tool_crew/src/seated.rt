@@ -1,7 +1,7 @@
 //! Each actor in its seat.
 ghost use Rattle.std.specs.Prelude.{◌≡◌, ◌≢◌};
 ghost use Rattle.actors.specs.declared.end.ActorEnd.TheVariants as end;
-ghost use Rattle.actors.specs.ScriptReads.{source_told};
+ghost use Rattle.source_lines.specs.Reads.{source_told};
 ghost use Rattle.actors.specs.Times.{TimeLooked};
 ghost use Rattle.host_actor.specs.Links.{link_told, door_told};
 ghost use Rattle.tool_crew.specs.Doings.{Operated, TimeWent, Worked};

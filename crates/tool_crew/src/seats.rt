@@ -5,7 +5,7 @@ ghost use Rattle.sim_modules.specs.Acting.{begun};
 ghost use Rattle.shared_tool.specs.Chairs.{config_of, IsChairOf};
 ghost use Rattle.shared_tool.specs.Seats.{table_of, IsChairAt, posts_of};
 ghost use Rattle.actors.specs.declared.end.ActorEnd.TheVariants as end;
-ghost use Rattle.actors.specs.ScriptReads.{source_told};
+ghost use Rattle.source_lines.specs.Reads.{source_told};
 ghost use Rattle.actors.specs.Times.{TimeLooked, TimeDid};
 ghost use Rattle.host_actor.specs.Links.{link_told, door_told};
 ghost use Rattle.tool_crew.specs.Doings.{Hosted, Operated, Worked};

@@ -1,18 +1,27 @@
 -- What a configuration may say (this tool's profile, configuration).
-use Rattle.std.specs.Prelude.{◌≡◌, ◌≤◌, ℕ, nat_le, Bool, true, List, length}
+use Rattle.std.specs.Prelude.{◌≡◌, ◌≤◌, ℕ, ◌==◌, nat_le, Bool, true, ◌&&◌, List, length}
 use Rattle.std.specs.List.{list_all, list_any}
 use Rattle.gem_ids.specs.Moments.{last_moment}
 use Rattle.tool_events.specs.declared.config.Config.{Config}
 use Rattle.tool_tasks.specs.Chambers.{last_chamber, chamber_list}
+use Rattle.tool_tasks.specs.Routes.{most_steps, rises}
 use Rattle.tool_tasks.specs.declared.recipes.Recipe.{Recipe}
 
--- a recipe has one of the chambers of a tool with so many (this tool's profile, configuration)
+-- a step has one of the chambers of a tool with so many (this tool's profile, configuration)
+abbrev pub has_one_of : ℕ → ℕ → Bool
+has_one_of chambers step = list_any (λ c. nat_le c chambers) (chamber_list step)
+
+-- a recipe's route has 1 to 6 steps that rise, each with a chamber of a tool with so many (this tool's profile, configuration)
 abbrev pub is_usable : ℕ → Recipe → Bool
-is_usable chambers r = list_any (λ c. nat_le c chambers) (chamber_list r.chambers)
+is_usable chambers r = nat_le 1 (length r.route) && (nat_le (length r.route) most_steps && (rises r.route && list_all (has_one_of chambers) r.route))
 
 -- each of these has
 abbrev pub are_usable : ℕ → List Recipe → Bool
 are_usable chambers recipes = list_all (is_usable chambers) recipes
+
+-- the route of each of these has one step
+abbrev pub have_one_step : List Recipe → Bool
+have_one_step recipes = list_all (λ (r : Recipe). length r.route == 1) recipes
 
 -- the configuration keeps its bounds (this tool's profile, other configurations)
 pub record IsConfig (c : Config) : Type 0 where
@@ -24,7 +33,7 @@ pub record IsConfig (c : Config) : Type 0 where
   pub chambers_some : 1 ≤ c.chambers
   pub chambers : c.chambers ≤ last_chamber
   pub ports_some : 1 ≤ c.ports
-  pub ports : c.ports ≤ 2
+  pub ports : c.ports ≤ 4
   pub spool_some : 1 ≤ c.spool_capacity
   pub spool : c.spool_capacity ≤ 65536
   pub transmit : c.max_transmit ≤ 65536
@@ -42,3 +51,5 @@ pub record IsConfig (c : Config) : Type 0 where
   pub bytes : c.max_bytes ≤ 536870912
   pub start : c.start_moment.0 ≤ last_moment
   pub recipes : are_usable c.chambers c.recipes ≡ true
+  -- the tool's substrates count no steps yet
+  pub one_step : have_one_step c.recipes ≡ true

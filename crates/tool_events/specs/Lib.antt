@@ -2,3 +2,4 @@ pub mod Sizes
 pub mod Posts
 pub mod Answering
 pub mod Configs
+pub mod Worked

@@ -46,9 +46,9 @@ pub struct Config {
     pub communication: CommStart,
     /// How control begins.
     pub control: ControlStart,
-    /// How many chambers the tool has, 1 or 2.
+    /// How many chambers the tool has, 1 to 8; 1 or 2 in version 1.
     pub chambers: u8,
-    /// How many load ports the tool has, 1 or 2.
+    /// How many load ports the tool has, 1 to 4; 1 or 2 in version 1.
     pub ports: u8,
     /// How many notes the spool holds, 1 to 65,536.
     pub spool_capacity: u32,
@@ -78,7 +78,7 @@ pub struct Config {
     /// The first moment, in hundredths of a second since the beginning of the year 2000, at most 25,245,561,599,999,
     /// the last of the year 9999.
     pub start_moment: Moment,
-    /// The recipes by which the chambers process, 1 to 32.
+    /// The recipes by which the chambers process, 1 to 32. The route of each has one step.
     pub recipes: Recipes,
     /// The port of TCP on which a tool that serves links listens, at least 1 (SEMI E37, connection).
     pub tcp_port: u16,

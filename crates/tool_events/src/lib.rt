@@ -10,9 +10,11 @@ mod config;
 mod desk;
 mod entry;
 mod event;
+mod worked;
 
 pub use answer::{Answer, PostFault};
 pub use config::{CommStart, Config, ControlStart, SpoolStreams};
 pub use desk::Desk;
 pub use entry::{Entry, Post};
 pub use event::{Event, OperCmd, SessionCause, SessionEnd, Signal, TEXT_BYTES};
+pub use worked::a_tool_can_use_a_recipe;

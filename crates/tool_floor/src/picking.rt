@@ -1,19 +1,19 @@
-//! Whom the robot is best to pick, as the planner asks for it (this tool's profile, moves). In the chambers and at the aligner it is
-//! looked who is there. Only where nobody is to be picked there, the substrates in their slots are gone through in the order of their
+//! Whom the robot is best to pick, as the planner asks for it (this tool's profile, moves). In the chambers, from the last of them down,
+//! and at the aligner it is looked who is there. Only where nobody is to be picked there, the substrates in their slots are gone through in the order of their
 //! registration, and by what is known without looking where they are; the first of them whose pick is useful is the one.
 
 ghost use Rattle.std.specs.Prelude.{◌≡◌};
 ghost use Rattle.gem_ids.specs.declared.numbers.LocId.TheVariants.{Aligner};
-ghost use Rattle.robot_moves.specs.Moves.{is_free, first_among};
+ghost use Rattle.robot_moves.specs.Moves.{is_free};
 ghost use Rattle.floor_model.specs.Floor.{RiseTo};
 ghost use Rattle.floor_model.specs.Views.{views};
-ghost use Rattle.floor_model.specs.Picks.{told_there, told_in_slot, where_useful, pick_at, chamber_picks, aligner_pick, better_of, may_be_picked, slot_pick, first_in_slot};
+ghost use Rattle.floor_model.specs.Picks.{told_there, told_in_slot, where_useful, pick_at, last_chamber_pick, aligner_pick, may_be_picked, slot_pick, first_in_slot};
 
 use crate::floor::ToolFloor;
 use crate::planning::{is_processing, view_of};
 use floor_model::Substrate;
 use gem_ids::{LocId, ModuleId};
-use robot_moves::{Modules, Picks, PlaceView, Whereabouts, better, is_free, is_useful};
+use robot_moves::{Modules, Picks, PlaceView, Whereabouts, is_free, is_useful};
 use substrate::{Registered, is_work_place};
 use tool_jobs::Jobs;
 
@@ -29,16 +29,6 @@ impl Picks for ToolFloor {
             return Some(v);
         }
         self.slot_pick(modules)
-    }
-}
-
-// The better of two picks, where there are two.
-fn better_of(best: Option<PlaceView>, found: Option<PlaceView>) -> Option<PlaceView>
-    ensures { result ≡ better_of best found }
-{
-    match found {
-        Some(v) => Some(better(best, &v)),
-        None => best,
     }
 }
 
@@ -97,19 +87,19 @@ impl ToolFloor {
         }
     }
 
-    // The best of the useful picks from the chambers.
+    // The useful pick from the greatest chamber that has one.
     fn chamber_pick(&self, modules: &Modules) -> Option<PlaceView>
-        ensures { result ≡ first_among (chamber_picks (views self.now) modules.now) }
+        ensures { result ≡ last_chamber_pick (views self.now) modules.now }
     {
-        let mut best = None;
-        for index in 2..modules.len() {
-            let chamber = LocId::Chamber(index as u8 - 1);
-            best = better_of(
-                best,
-                self.pick_at(ModuleId(index as u8 + 1), chamber, modules),
-            );
+        let chambers = modules.len().saturating_sub(2);
+        for passed in 0..chambers {
+            let c = (chambers - passed) as u8;
+            let found = self.pick_at(ModuleId(c + 2), LocId::Chamber(c), modules);
+            if found.is_some() {
+                return found;
+            }
         }
-        best
+        None
     }
 
     // The useful pick from the aligner.

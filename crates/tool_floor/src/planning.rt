@@ -20,12 +20,12 @@ use substrate::Registered;
 use tool_jobs::Jobs;
 use tool_tasks::Recipe;
 
-// The set of the chambers of a recipe, none where there is none.
+// The set of the chambers of the first step of a recipe, none where there is none.
 fn chambers_of(recipe: Option<Recipe>) -> u8
     ensures { result ≡ chambers_of recipe }
 {
     match recipe {
-        Some(recipe) => recipe.chambers.bits(),
+        Some(recipe) => recipe.route.step(0).bits(),
         None => 0,
     }
 }

@@ -3,9 +3,9 @@ use Rattle.std.specs.Prelude.{ℕ, ◌-◌, ◌/◌, ◌%◌, ◌^◌, ◌==◌,
 use Rattle.std.specs.Int.Bits.{bit_or}
 use Rattle.std.specs.List.{fold, range_with_len}
 
--- the last chamber that a recipe may name (this tool's profile, configuration)
+-- the last chamber of a plant, and so the last that a recipe may name (this tool's profile, configuration)
 abbrev pub last_chamber : ℕ
-last_chamber = 2
+last_chamber = 8
 
 -- a set has this chamber
 abbrev pub has_chamber : ℕ → ℕ → Bool
@@ -23,6 +23,6 @@ chamber_set cs = fold with_chamber 0 cs
 abbrev pub chambers_to : ℕ → ℕ
 chambers_to last = 2 ^ last - 1
 
--- the chambers of a set, in their order; it has chambers 1 to 8
+-- the chambers of a set, in their order
 abbrev pub chamber_list : ℕ → List ℕ
-chamber_list set = filter (has_chamber set) (range_with_len 1 8)
+chamber_list set = filter (has_chamber set) (range_with_len 1 last_chamber)

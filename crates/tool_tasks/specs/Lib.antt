@@ -1,2 +1,4 @@
 pub mod Chambers
+pub mod Places
 pub mod Recipes
+pub mod Routes

@@ -1,11 +1,11 @@
 //! Sets of chambers (this tool's profile, configuration and moves).
 ghost use Rattle.std.specs.Prelude.{◌≡◌, ◌-◌, ◌≤◌, ◌^◌};
-ghost use Rattle.tool_tasks.specs.Chambers.{has_chamber, with_chamber, chambers_to};
+ghost use Rattle.tool_tasks.specs.Chambers.{last_chamber, has_chamber, with_chamber, chambers_to};
 
 use std::marker::Model;
 
-/// The chambers of a recipe (this tool's profile, configuration): a set of the numbers 1 and 2. Contracts see it as its bits, of which
-/// bit c - 1 stands for chamber c.
+/// The chambers that can do a step of a recipe (this tool's profile, configuration): a set of the numbers 1 to 8. Contracts see it as its
+/// bits, of which bit c - 1 stands for chamber c.
 #[derive(Clone, Copy)]
 pub struct RecipeChambers {
     bits: u8,
@@ -32,20 +32,20 @@ impl RecipeChambers {
         RecipeChambers { bits: 0 }
     }
 
-    /// The chambers from 1 to this one, 0 to 2.
+    /// The chambers from 1 to this one, 0 to 8.
     pub fn to(last: u8) -> RecipeChambers
-        requires { last ≤ 2 }
+        requires { last ≤ last_chamber }
         ensures { result ≡ chambers_to last }
     {
         RecipeChambers {
-            bits: (1 << last) - 1,
+            bits: ((1u16 << last) - 1) as u8,
         }
     }
 
-    /// The same with chamber 1 or 2.
+    /// The same with a chamber, 1 to 8.
     pub fn with(self, c: u8) -> RecipeChambers
         requires first { 1 ≤ c }
-        requires last { c ≤ 2 }
+        requires last { c ≤ last_chamber }
         ensures { result ≡ with_chamber self c }
     {
         RecipeChambers {
@@ -64,7 +64,7 @@ impl RecipeChambers {
 /// Whether a set of chambers has this one, 1 to 8: whether its bit c - 1 is set.
 pub fn has_chamber(chambers: u8, c: u8) -> bool
     requires first { 1 ≤ c }
-    requires last { c ≤ 8 }
+    requires last { c ≤ last_chamber }
     ensures { result ≡ has_chamber chambers c }
 {
     (chambers >> (c - 1)) % 2 == 1

@@ -6,10 +6,14 @@
 
 mod chambers;
 mod recipes;
+mod routes;
 mod task;
 mod words;
+mod worked;
 
 pub use chambers::{RecipeChambers, has_chamber};
 pub use recipes::{Recipe, Recipes};
+pub use routes::Route;
 pub use task::{Command, Task};
 pub use words::JobWord;
+pub use worked::{a_route_rises, a_set_has_chambers, a_step_has_a_number};

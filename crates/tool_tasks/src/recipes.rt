@@ -1,6 +1,7 @@
 ghost use Rattle.std.specs.Prelude.{◌≡◌, ◌↔◌, ◌<◌, ◌≤◌, [], ◌∷◌, ◌++◌, length, IsTrue};
+ghost use Rattle.tool_tasks.specs.Recipes.{most_recipes};
 
-use crate::chambers::RecipeChambers;
+use crate::routes::Route;
 use gem_ids::Text80;
 use std::marker::Model;
 
@@ -9,8 +10,8 @@ use std::marker::Model;
 pub struct Recipe {
     /// Its name, 1 to 64 bytes.
     pub name: Text80,
-    /// The chambers that can process by it.
-    pub chambers: RecipeChambers,
+    /// The steps of it, in their order.
+    pub route: Route,
 }
 
 /// The recipes of a tool, at most 32, in the order of the configuration. Contracts see them as a list.
@@ -24,17 +25,18 @@ pub struct Recipes {
 impl Model for Recipes {
     ghost use Rattle.std.specs.Prelude.{◌-◌, ◌++◌, List, length, take, replicate};
     ghost use Rattle.tool_tasks.specs.declared.recipes.Recipe.{Recipe};
-    ghost use Rattle.tool_tasks.specs.Recipes.{HoldsRecipes, blank, held_count, held_places};
+    ghost use Rattle.tool_tasks.specs.Places.{Holds, held_count, held_places};
+    ghost use Rattle.tool_tasks.specs.Recipes.{most_recipes, blank};
 
     ghost Value = { List Recipe };
 
     ghost view = { λ r. take r.count r.recipes };
 
-    ghost invariant = { λ r. HoldsRecipes r.recipes r.count };
+    ghost invariant = { λ r. Holds most_recipes blank r.recipes r.count };
 
-    ghost inverse = { λ recipes. record { recipes = recipes ++ replicate (32 - length recipes) blank; count = length recipes } };
+    ghost inverse = { λ recipes. record { recipes = recipes ++ replicate (most_recipes - length recipes) blank; count = length recipes } };
 
-    ghost inverse_ok = { λ r h i. record { recipes = held_places r.recipes r.count h i; count = held_count r.recipes r.count h i } };
+    ghost inverse_ok = { λ r h i. record { recipes = held_places most_recipes blank r.recipes r.count h i; count = held_count most_recipes blank r.recipes r.count h i } };
 }
 
 impl Recipes {
@@ -44,7 +46,7 @@ impl Recipes {
     {
         let blank = Recipe {
             name: Text80::empty(),
-            chambers: RecipeChambers::none(),
+            route: Route::none(),
         };
         Recipes {
             recipes: [blank; 32],
@@ -54,7 +56,7 @@ impl Recipes {
 
     /// Puts a recipe behind the others.
     pub fn push(&mut self, recipe: Recipe)
-        requires room { length self.old < 32 }
+        requires room { length self.old < most_recipes }
         ensures { self.new ≡ self.old ++ recipe ∷ [] }
     {
         self.recipes[self.count as usize] = recipe;
@@ -71,7 +73,7 @@ impl Recipes {
     /// How many recipes there are, at most 32.
     pub fn len(&self) -> usize
         ensures count { result ≡ length self.now }
-        ensures fits { result ≤ 32 }
+        ensures fits { result ≤ most_recipes }
     {
         self.count as usize
     }

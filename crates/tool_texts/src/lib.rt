@@ -6,8 +6,6 @@
 //! `read_script_line` for a script, with `read_line` for any line, and with `print_out_line` for what goes out.
 #![tactic(auto)]
 
-mod cursor;
-mod kind;
 mod operator;
 mod print;
 mod read;

@@ -1,50 +1,13 @@
 //! The words of an operator.
 ghost use Rattle.std.specs.Prelude.{◌≡◌, ℕ};
-ghost use Rattle.line_grammar.specs.Grammar.{says};
-ghost use Rattle.line_grammar.specs.Reading.{read, either_of};
+ghost use Rattle.line_grammar.specs.Reading.{read};
 ghost use Rattle.line_grammar.specs.Lines.{service_words, access_words, job_word, job_words, control_job_words, up_words, clear_words, lost_words, operator_words};
 
-use crate::cursor::Cursor;
 use gem_ids::{JobId, ModuleId, PortNo, SubstrateId};
+use line_cursor::{Cursor, either, says};
 use line_grammar::WordKind;
 use tool_events::OperCmd;
 use tool_tasks::JobWord;
-
-// What one reading or the other gives, and the farther place where both fail.
-pub(crate) fn either<T: Drop>(one: Result<T, usize>, other: Result<T, usize>) -> Result<T, usize>
-    ensures { result ≡ either_of one other }
-{
-    match (one, other) {
-        (Ok(value), _) => Ok(value),
-        (Err(_), Ok(value)) => Ok(value),
-        (Err(place), Err(farther)) => Err(place.max(farther)),
-    }
-}
-
-// The same, of values that are copied.
-pub(crate) fn either_copied<T: Copy>(
-    one: Result<T, usize>,
-    other: Result<T, usize>,
-) -> Result<T, usize>
-    ensures { result ≡ either_of one other }
-{
-    match one {
-        Ok(value) => Ok(value),
-        Err(place) => match other {
-            Ok(value) => Ok(value),
-            Err(farther) => Err(place.max(farther)),
-        },
-    }
-}
-
-// These very bytes, and no more, say the value.
-pub(crate) fn says<T: Drop>(mut text: Cursor, words: &[u8], value: T) -> Result<T, usize>
-    ensures { result ≡ read (says words.now value) text.entry.total text.entry.rest.now }
-{
-    text.literal(words)?;
-    text.end()?;
-    Ok(value)
-}
 
 // `service p in` and `service p out`.
 #[tactic(auto, unfolding(line_grammar::specs::Lines::service_words))]

@@ -4,11 +4,11 @@ ghost use Rattle.line_grammar.specs.Grammar.{Reads, gives, says, ◌or◌};
 ghost use Rattle.line_grammar.specs.Lines.{skipped_line, comment_line, moment_line, operator_line, signal_line, watch_line, common_lines, hex_line, link_lines, feed_lines, script_lines, all_lines, operator_words};
 ghost use Rattle.line_grammar.specs.Reading.{read, either_of, Gives, feed_line_of, script_line_of};
 
-use crate::cursor::Cursor;
-use crate::operator::{either, operator, says};
+use crate::operator::operator;
 use crate::signal::signal;
 use gem_ids::{Moment, PortNo};
 use hsms_frame::Bytes;
+use line_cursor::{Cursor, either, says};
 use line_grammar::{Line, LineFault};
 use std::alloc::Global;
 use tool_events::OperCmd;

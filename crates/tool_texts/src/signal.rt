@@ -5,9 +5,8 @@ ghost use Rattle.line_grammar.specs.Grammar.{◌or◌};
 ghost use Rattle.gem_ids.specs.Names.{HasLength};
 ghost use Rattle.line_grammar.specs.Lines.{read_id, slot_codes, placed_line, removed_line, done_line, failed_line, down_line};
 
-use crate::cursor::Cursor;
-use crate::operator::either_copied;
 use gem_ids::{CarrierId, CmdNo, ModuleId, PortNo, Text80};
+use line_cursor::{Cursor, either_copied};
 use line_grammar::WordKind;
 use tool_events::Signal;
 

@@ -5,8 +5,8 @@ use Rattle.tool_events.specs.declared.entry.Entry.{Entry}
 use Rattle.tool_events.specs.Configs.{IsConfig}
 use Rattle.gem_model.specs.Conversation.{worked_config}
 use Rattle.history_laws.proofs.Recording.{recorded-none}
-use Rattle.line_feeding.specs.declared.ended.Cause.{Cause}
-use Rattle.line_feeding.specs.declared.ended.Cause.TheVariants as cause
+use Rattle.run_causes.specs.declared.cause.Cause.{Cause}
+use Rattle.run_causes.specs.declared.cause.Cause.TheVariants as cause
 use Rattle.line_feeding.specs.CauseOf.{Refuses}
 use Rattle.line_feeding.specs.Fed.{SourceView, Fed, Shown, IsRead, Configured, RanUnder}
 use Rattle.feeding.proofs.Ending.{Fed-refused, Shown-refused}
@@ -41,6 +41,7 @@ worked_is = record {
   bytes = omega arith;
   start = omega arith;
   recipes = refl;
+  one_step = refl;
 }
 
 -- a run that reads no input does nothing under a configuration

@@ -2,7 +2,7 @@
 use Rattle.std.specs.Prelude.{◌≡◌, ◌⊎◌, ℕ, List, [], Option}
 use Rattle.tool_events.specs.declared.config.Config.{Config}
 use Rattle.tool_events.specs.declared.entry.Entry.{Entry}
-use Rattle.line_feeding.specs.declared.ended.Cause.{Cause}
+use Rattle.run_causes.specs.declared.cause.Cause.{Cause}
 use Rattle.line_feeding.specs.declared.ended.SessionNote.{SessionNote}
 use Rattle.line_feeding.specs.CauseOf.{Refuses}
 use Rattle.line_feeding.specs.Fed.{SourceView, IsRead, Configured, RanUnder}

@@ -3,8 +3,8 @@ ghost use Rattle.std.specs.Prelude.{◌≡◌, ◌≢◌, ◌≤◌, ◌↔◌, 
 ghost use Rattle.outside.specs.Counts.{Rose, Failed};
 ghost use Rattle.program_words.specs.Commands.{Spells};
 ghost use Rattle.program_words.specs.declared.words.Words.TheVariants as command;
-ghost use Rattle.line_feeding.specs.declared.ended.Cause.TheVariants as cause;
-ghost use Rattle.line_feeding.specs.Status.{status_of};
+ghost use Rattle.run_causes.specs.declared.cause.Cause.TheVariants as cause;
+ghost use Rattle.run_causes.specs.Status.{status_of};
 ghost use Rattle.line_feeding.specs.Fed.{looked};
 ghost use Rattle.line_feeding.specs.Going.{seen};
 ghost use Rattle.line_feeding.specs.Words.{refused_at};

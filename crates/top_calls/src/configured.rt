@@ -6,8 +6,8 @@ ghost use Rattle.gem_model.specs.State.{opening};
 ghost use Rattle.gem_model.specs.Run.{after_all};
 ghost use Rattle.history_laws.specs.Recorded.{Recorded};
 ghost use Rattle.gem_model.specs.Sizes.{bytes_of};
-ghost use Rattle.line_feeding.specs.declared.ended.Cause.TheVariants as cause;
-ghost use Rattle.line_feeding.specs.Status.{status_of};
+ghost use Rattle.run_causes.specs.declared.cause.Cause.TheVariants as cause;
+ghost use Rattle.run_causes.specs.Status.{status_of};
 ghost use Rattle.line_feeding.specs.Fed.{looked, Fed, Shown};
 ghost use Rattle.batching.specs.Batched.{BatchedUnder};
 

@@ -3,7 +3,7 @@ use Rattle.std.proofs.Common.{◌≡◌, ◌≤◌, ℕ, ◌+◌, ◌-◌, ◌==
 use Rattle.std.specs.List.{list_any}
 use Rattle.std.proofs.lemmas.Bool.{and_from, false_from_ne_true}
 use Rattle.std.proofs.lemmas.Bool.Decides.{Decides-eqb}
-use Rattle.gem_tables.specs.Table.{first_itself}
+use Rattle.gem_tables.specs.Table.{first_itself, is_one_of}
 use Rattle.gem_ids.specs.declared.numbers.LocId.{LocId}
 use Rattle.gem_ids.specs.declared.numbers.LocId.TheVariants.{Aligner, Arm, Chamber}
 use Rattle.tool_tasks.specs.declared.task.Task.TheVariants as task
@@ -45,6 +45,12 @@ use Rattle.place_laws.proofs.QuietPorts.{no_row}
 is_needing_state : (p : Processing) → (processing_number p == 0) ≡ true → p ≡ processing.NeedsProcessing
 is_needing_state processing.NeedsProcessing e = refl
 is_needing_state _ e = absurd (cc)
+
+-- what is unfinished and isn't IN PROCESS NEEDS PROCESSING
+needs : (needing begun : Bool) → not (needing || begun) ≡ false → begun ≡ false → needing ≡ true
+needs true begun u e = refl
+needs false true u e = absurd (cc)
+needs false false u e = absurd (cc)
 
 -- where no row of table 13 is ready, one that NEEDS PROCESSING isn't skipped
 none_skipped : (f : ToolFloor) (s : Substrate) (p : Processing) → p ≡ processing.NeedsProcessing → first_itself processing_number (λ w. substrate_wants w s f) processing_table p ≡ None → is_skipped s f ≡ false
@@ -128,14 +134,14 @@ module _ (f : ToolFloor) (b : Base f) (v : Valid (picture f)) (many : length f.m
       not_second = false_from_ne_true (chamber_module c == 2) (λ e. let same = (Decides-eqb (chamber_module c) 2).0 e in absurd (omega (arith, same, least)))
 
   -- row 4
-  no_process : (n c : ℕ) → (picture f).place_of n ≡ Some (chamber c) → ((picture f).processing n == 0) ≡ true → ⊥
-  no_process n c at e =
+  no_process : (n c : ℕ) → (picture f).place_of n ≡ Some (chamber c) → law.is_finished ((picture f).processing n) ≡ false → is_one_of (law.next_step n (picture f)) c ≡ true → ⊥
+  no_process n c at unfinished due =
+      let e = needs ((picture f).processing n == 0) ((picture f).processing n == 1) unfinished (unprocessed n) in
       let known = within 1 f.places.chambers c (v.places.chambers n c at) in
       let least = known.0 in
       let more = known.1 in
       let most : chamber_module c ≤ length f.modules = omega (arith, more, many) in
       let w = shown f b v many idles n (Chamber c) at in
-      let unfinished : law.is_finished ((picture f).processing n) ≡ false = ap (λ (x : Bool). not (x || ((picture f).processing n == 1))) e in
       let begun : w.0.in_process ≡ false = w.1.tells.needing (ap (λ (k : ℕ). (picture f).processing k == 0) w.1.seen.number ∙ e) in
       let neither : (not w.0.finished && not w.0.in_process) ≡ true = and_from (not w.0.finished) (not w.0.in_process) (ap (λ (x : Bool). not x) (sym w.1.seen.finished ∙ unfinished)) (ap (λ (x : Bool). not x) begun) in
       let number : chamber_module c - 2 ≡ c = omega arith in
@@ -164,4 +170,4 @@ module _ (f : ToolFloor) (b : Base f) (v : Valid (picture f)) (many : length f.m
 
   -- the floor by numbers is at rest
   pub at_rest : AtRest (picture f)
-  at_rest = record { placed = no_place; picked = no_pick; aligned = no_align; unprocessed = unprocessed; processed = no_process; skipped = no_skip }
+  at_rest = record { placed = no_place; picked = no_pick; aligned = no_align; processed = no_process; skipped = no_skip }

@@ -27,6 +27,7 @@ use Rattle.floor_laws.proofs.IssueViews.{IsSeen, holder_seen, none_seen}
 use Rattle.work_laws.proofs.Lists.{none_of}
 use Rattle.work_laws.proofs.Telling.{Tells, views_tell}
 use Rattle.place_laws.proofs.Names.{same_loc}
+use Rattle.place_laws.proofs.OneStep.{through_finished}
 
 -- ---- numbers of chambers and modules
 
@@ -149,7 +150,7 @@ module _ (f : ToolFloor) (b : Base f) (v : Valid (picture f)) (many : length f.m
           (and_from (is_empty Aligner (views f)) (is_idle (module_at 2 f.modules)) (empty_there Aligner ((has.1 (s.finished ∙ p)).at_aligner (s.aligned ∙ q))) aligner_there))
       of false p true q =
           let c = (has.1 (s.finished ∙ p)).in_chamber (s.aligned ∙ q) in
-          let chosen = t.chambers c.0 (ap (λ (k : ℕ). is_one_of ((picture f).jobs.chambers_of k) c.0) s.number ∙ c.1) in
+          let chosen = t.chambers c.0 (ap (λ (k : ℕ). is_one_of (law.next_step k (picture f)) c.0) s.number ∙ c.1) in
           let open_there : is_free (views f) f.modules (Chamber c.0) ≡ true = and_from (is_empty (Chamber c.0) (views f)) (is_idle (module_at (chamber_module c.0) f.modules)) (empty_there (Chamber c.0) c.3) (chamber_there c.0 c.2) in
           by_aligned true p q (chamber_target (views f) f.modules w c.0 chosen.least chosen.most (and_from (has_chamber w.chambers c.0) (is_free (views f) f.modules (Chamber c.0)) chosen.has open_there))
 
@@ -164,7 +165,7 @@ module _ (f : ToolFloor) (b : Base f) (v : Valid (picture f)) (many : length f.m
         and_from (is_idle (module_at 2 f.modules)) (w.finished || w.aligned) aligner_there
         (ap (λ (x : Bool). x || w.aligned) (sym s.finished) ∙ ap (λ (x : Bool). law.is_finished ((picture f).processing n) || x) (sym s.aligned) ∙ may)
     leaves_there Arm at may = absurd may
-    leaves_there (Chamber c) at may = and_from (is_idle (module_at (chamber_module c) f.modules)) w.finished (chamber_there c (v.places.chambers n c at)) (sym s.finished ∙ may)
+    leaves_there (Chamber c) at may = and_from (is_idle (module_at (chamber_module c) f.modules)) w.finished (chamber_there c (v.places.chambers n c at)) (sym s.finished ∙ through_finished f v n c at may)
 
     -- its pick is useful
     pub useful_there : (loc : LocId) → w.at ≡ loc → (picture f).place_of n ≡ Some (loc_of loc) → MayLeave n (loc_of loc) (picture f) → HasTarget n (picture f) → is_useful (views f) f.modules w ≡ true

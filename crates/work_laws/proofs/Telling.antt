@@ -14,6 +14,7 @@ use Rattle.floor_model.specs.declared.tracked.Substrate.{Substrate}
 use Rattle.floor_model.specs.Floor.{ToolFloor, substrate_numbered}
 use Rattle.floor_model.specs.Jobs.{job_of}
 use Rattle.floor_model.specs.Views.{chambers_of, recipe_of, view_of, view_in, views_of, views}
+use Rattle.floor_moves.specs.Floor.{next_step}
 use Rattle.place_laws.specs.Picture.{picture, numbered, number_or_none, chambers_in, of_one, of_job}
 use Rattle.place_laws.specs.Sound.{Base}
 use Rattle.place_laws.proofs.ChamberLists.{IsChosen, is_chosen}
@@ -36,7 +37,7 @@ not_begun processing.Skipped e = refl
 -- A view tells these things of the substrate of its number: each chamber of the recipe of its job, and that it is not IN PROCESS where it
 -- NEEDS PROCESSING.
 pub record Tells (f : ToolFloor) (v : PlaceView) : Type 0 where
-  pub chambers : (c : ℕ) → is_one_of ((picture f).jobs.chambers_of (numbered v.sub f.places)) c ≡ true → IsChosen v.chambers c
+  pub chambers : (c : ℕ) → is_one_of (next_step (numbered v.sub f.places) (picture f)) c ≡ true → IsChosen v.chambers c
   pub needing : ((picture f).processing (numbered v.sub f.places) == 0) ≡ true → v.in_process ≡ false
 
 module _ (f : ToolFloor) (b : Base f) where

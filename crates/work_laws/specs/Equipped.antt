@@ -1,4 +1,4 @@
--- What the tool has for its process jobs at every moment: its modules, and recipes by which its chambers can process (this tool's
+-- What the tool has for its process jobs at every moment: its modules, and recipes whose steps its chambers can do (this tool's
 -- profile, configuration, moves and process jobs).
 use Rattle.std.specs.Prelude.{◌≡◌, ℕ, ◌+◌, true, List, length}
 use Rattle.std.specs.List.{AllByRecursion}
@@ -16,7 +16,7 @@ HasRecipe recipes j = is_recipe j.recipe recipes ≡ true
 abbrev pub most_chambers : ℕ
 most_chambers = 253
 
--- The tool has the robot, the aligner and a module for each chamber; each of its recipes has one of its chambers; and the recipe of
+-- The tool has the robot, the aligner and a module for each chamber; each step of its recipes has one of its chambers; and the recipe of
 -- each process job that is kept is one of these.
 pub record Equipped (f : ToolFloor) : Type 0 where
   pub modules : length f.modules ≡ 2 + f.places.chambers

@@ -69,6 +69,22 @@ is_member f = record f { substrates = change_numbered 1 joins f.substrates }
 abbrev pub created : Bool → ToolFloor
 created auto = with_both (process_with process.Queued auto ∷ []) (control_with control.Queued (codes "PJ1" ∷ []) ∷ []) in_slot
 
+-- a second process job over the same slots; and both, in a control job that names the second one first
+abbrev pub second : ProcessJob
+second = record (process_with process.Queued true) { number = 2; id = codes "PJ2" }
+
+abbrev pub named_twice : ToolFloor
+named_twice = record in_slot {
+  jobs = record {
+    process = record { kept = process_with process.Queued true ∷ second ∷ []; recipes = recipes; given = 2 };
+    control = record {
+      jobs = record (control_with control.Queued (codes "PJ2" ∷ codes "PJ1" ∷ [])) { named = codes "PJ2" ∷ codes "PJ1" ∷ [] } ∷ [];
+      order = 1 ∷ [];
+      given = 1;
+    };
+  };
+}
+
 -- ---- what the host and the operator do
 
 -- a row at the process job, or at the control job

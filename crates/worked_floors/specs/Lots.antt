@@ -12,7 +12,7 @@ use Rattle.gem_model.specs.State.{State, opening}
 use Rattle.gem_model.specs.Run.{entry_after}
 use Rattle.history_laws.specs.Calm.{is_calm}
 use Rattle.worked_floors.specs.Worked.{settled}
-use Rattle.worked_floors.specs.Jobs.{created}
+use Rattle.worked_floors.specs.Jobs.{created, named_twice}
 
 -- the tool as it begins, but for its floor
 abbrev pub tool_with : ToolFloor → State
@@ -21,6 +21,10 @@ tool_with f = record (opening worked_config) { floor = f }
 -- the tool with the lot, as its control job is EXECUTING and the robot has its first command
 abbrev pub begun : State
 begun = tool_with (settled (created true))
+
+-- the tool with the lot whose slot two process jobs name, as its control job is EXECUTING and the robot has its first command
+abbrev pub begun_twice : State
+begun_twice = tool_with (settled named_twice)
 
 -- the entry of an event, at the first moment
 abbrev pub entry_of : Event → Entry

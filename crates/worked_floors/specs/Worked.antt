@@ -44,9 +44,9 @@ use Rattle.floor_model.specs.Signals.{at_module, done_rows, closing_rows, lost_r
 
 -- ---- what the floors are made of
 
--- the recipe of the tool, by which both chambers process
+-- the recipe of the tool, a route of one step that both chambers can do
 abbrev pub recipes : List Recipe
-recipes = record { name = codes "R1"; chambers = chambers_to 2 } ∷ []
+recipes = record { name = codes "R1"; route = chambers_to 2 ∷ [] } ∷ []
 
 -- the name of the substrate
 abbrev pub wafer : List ℕ

@@ -1,24 +1,35 @@
 //! A lot of one substrate in the tool, computed from the definitions. Each function is a statement about them, and has no code.
 
-ghost use Rattle.std.specs.Prelude.{◌≡◌, [], ◌∷◌, true, false};
+ghost use Rattle.std.specs.Prelude.{◌≡◌, [], ◌∷◌, map, true, false, codes, Some};
 ghost use Rattle.tool_tasks.specs.declared.words.JobWord.TheVariants.{Pause, Stop, Abort};
-ghost use Rattle.place_laws.specs.Picture.{picture};
-ghost use Rattle.owed_laws.specs.Owed.{commands_of};
-ghost use Rattle.lot_laws.specs.Lot.{counted_of};
+ghost use Rattle.substrate.specs.declared.record.Transport.TheVariants.{AtSource};
+ghost use Rattle.lot_laws.specs.Lot.{first_naming, counted_of, total};
 ghost use Rattle.gem_model.specs.Run.{after_all};
 ghost use Rattle.history_laws.specs.Completes.{control_of, has_completed, dones};
 ghost use Rattle.history_laws.specs.Calm.{is_calm};
-ghost use Rattle.worked_floors.specs.Jobs.{created};
-ghost use Rattle.worked_floors.specs.Lots.{begun, did_from, failed_at, was_down, said, are_calm};
+ghost use Rattle.worked_floors.specs.Worked.{wafer_with};
+ghost use Rattle.worked_floors.specs.Jobs.{created, named_twice};
+ghost use Rattle.worked_floors.specs.Lots.{begun, begun_twice, did_from, failed_at, was_down, said, are_calm};
 
 /// A lot of one substrate runs calm through its eight Dones, no row that they fire disturbing its control job, which takes eight
 /// commands; and that has completed behind the eighth, and not behind the seventh.
 pub fn a_lot_of_one_substrate_runs_calm()
-    ensures commands { commands_of (counted_of 1 (created true)) (picture (created true)) ≡ 8 }
+    ensures commands { total 1 (created true) ≡ 8 }
     ensures calm { are_calm 1 (counted_of 1 (created true)) begun (did_from 1 (1 ∷ 1 ∷ 2 ∷ 1 ∷ 1 ∷ 3 ∷ 1 ∷ 1 ∷ [])) ≡ true }
     ensures dones { dones begun (did_from 1 (1 ∷ 1 ∷ 2 ∷ 1 ∷ 1 ∷ 3 ∷ 1 ∷ 1 ∷ [])) ≡ 8 }
     ensures seventh { has_completed (control_of 1 (after_all begun (did_from 1 (1 ∷ 1 ∷ 2 ∷ 1 ∷ 1 ∷ 3 ∷ 1 ∷ [])))) ≡ false }
     ensures eighth { has_completed (control_of 1 (after_all begun (did_from 1 (1 ∷ 1 ∷ 2 ∷ 1 ∷ 1 ∷ 3 ∷ 1 ∷ 1 ∷ [])))) ≡ true }
+{}
+
+/// A lot of one substrate whose slot two process jobs name: the one takes it that its control job names first, though that was created
+/// last. It takes eight commands, and the control job, in which the other one is left then without a substrate, has completed behind the
+/// eighth Done, and not behind the seventh.
+pub fn the_first_of_two_process_jobs_takes_a_substrate()
+    ensures first { first_naming 1 named_twice (wafer_with AtSource) ≡ Some (codes "PJ2") }
+    ensures commands { total 1 named_twice ≡ 8 }
+    ensures taken { map (λ s. s.job) begun_twice.floor.substrates ≡ 2 ∷ [] }
+    ensures seventh { has_completed (control_of 1 (after_all begun_twice (did_from 1 (1 ∷ 1 ∷ 2 ∷ 1 ∷ 1 ∷ 3 ∷ 1 ∷ [])))) ≡ false }
+    ensures eighth { has_completed (control_of 1 (after_all begun_twice (did_from 1 (1 ∷ 1 ∷ 2 ∷ 1 ∷ 1 ∷ 3 ∷ 1 ∷ 1 ∷ [])))) ≡ true }
 {}
 
 /// It is not calm where a module fails at its command or goes down, or its process job is paused, stopped or aborted.

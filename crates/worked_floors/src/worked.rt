@@ -239,11 +239,12 @@ pub fn a_carrier_waits_for_each_of_its_substrates()
 {}
 
 /// A substrate on the arm doesn't go to an aligner that another one occupies. Of two picks that are useful the robot is given that of the
-/// chamber, whatever their numbers, and of two in chambers that of the lesser number.
+/// chamber, whatever their numbers, and of two in chambers that of the chamber of the greater number.
 pub fn two_substrates_make_way_for_each_other()
     ensures occupied { settling (second_aligned_at Aligner (out_at Arm)) ≡ [] }
     ensures stage { planned 1 (second_finished_at (Chamber 2) (finished_at Aligner)) ≡ Some (move_by 1 2 (task.Pick second_wafer (Chamber 2))) }
-    ensures number { planned 1 (second_finished_at (Chamber 1) (finished_at (Chamber 2))) ≡ Some (move_by 1 2 (task.Pick wafer (Chamber 2))) }
+    ensures chambers { planned 1 (second_finished_at (Chamber 2) (finished_at (Chamber 1))) ≡ Some (move_by 1 2 (task.Pick second_wafer (Chamber 2))) }
+    ensures first { planned 1 (second_finished_at (Chamber 1) (finished_at (Chamber 2))) ≡ Some (move_by 1 2 (task.Pick wafer (Chamber 2))) }
 {}
 
 /// The objects of the firings have their names: a port's, a carrier's, a location's and a substrate's. A module has none.

@@ -1,7 +1,7 @@
 use Rattle.std.proofs.Common.{◌+◌, ◌-◌, length}
 use Rattle.actors.specs.Operates.{script_bytes}
 use Rattle.actors.specs.Operating.{desk_told}
-use Rattle.actors.specs.ScriptReads.{source_told}
+use Rattle.source_lines.specs.Reads.{source_told}
 use Rattle.actors.proofs.ScriptStanding.{Going}
 use Rattle.actors.proofs.operator.post_lines.Given as goal
 

@@ -1,6 +1,6 @@
 use Rattle.std.proofs.Common.{[], ◌≡◌, ◌∙◌, inl, refl, subst}
 use Rattle.tool_events.specs.declared.config.Config.{Config}
-use Rattle.line_feeding.specs.declared.ended.Cause.TheVariants as cause
+use Rattle.run_causes.specs.declared.cause.Cause.TheVariants as cause
 use Rattle.line_feeding.specs.CauseOf.{cause_after}
 use Rattle.line_feeding.specs.Fed.{looked, FedBy, ReadToEnd, Shown}
 use Rattle.line_feeding.specs.Noted.{NotedBy}

@@ -8,4 +8,4 @@ pub returns-clause-inside : goal.returns-clause-inside
 returns-clause-inside c = λ counted g n v b kept is. begins_inside counted g v b n kept is
 
 pub returns-clause-owed : goal.returns-clause-owed
-returns-clause-owed c = begins_owed
+returns-clause-owed c = λ planned counted g v b. begins_owed counted g v b planned

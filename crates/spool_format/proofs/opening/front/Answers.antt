@@ -1,4 +1,4 @@
-use Rattle.std.proofs.Common.{rules, true, ◌≡◌, ◌∷◌, [], ℕ, List, inl, inr, refl, ◌∙◌, subst, arith}
+use Rattle.std.proofs.Common.{rules, true, ◌≡◌, ◌∷◌, [], ℕ, List, refl, ◌∙◌, subst, arith}
 use Rattle.std.specs.Int.{w32, w64, to_be_bytes}
 use Rattle.std.proofs.lemmas.Result.{err_from_is_err_and}
 use Rattle.outside.specs.Counts.{Rose}

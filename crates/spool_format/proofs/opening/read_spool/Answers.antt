@@ -37,8 +37,9 @@ returns-in_err-end-clause-fault g c =
       selector = selector;
       size = c.in_ok-selector.ensures.size;
       head = subst (λ (b : List ℕ). HasAt b 0 (head_bytes s selector)) s1 (c.in_ok-selector.ensures.head t1);
-      behind = subst (λ (at : ℕ). NoRecordBehind (g.D.Disk.reads c.args.disk.now) at (at + c.in_ok-selector.half) place) at_start
-          (subst (λ (b : List ℕ). NoRecordBehind b c.half_start-start.result (c.half_start-start.result + c.in_ok-selector.half) place) s2 (none t2));
+      behind = subst (λ (k : ℕ). NoRecordBehind (g.D.Disk.reads c.args.disk.now) k (half_start s selector) (half_start s selector + c.in_ok-selector.half) place) (ap (λ z. z.capacity) c.in-Ok.ensures)
+          (subst (λ (at : ℕ). NoRecordBehind (g.D.Disk.reads c.args.disk.now) c.in-Ok.queue.capacity at (at + c.in_ok-selector.half) place) at_start
+          (subst (λ (b : List ℕ). NoRecordBehind b c.in-Ok.queue.capacity c.half_start-start.result (c.half_start-start.result + c.in_ok-selector.half) place) s2 (none t2)));
     }))
     c.in_err-end.field-0.0 c.in_err-end.ensures.fault in
     rw (p.1, p.2) told

@@ -1,4 +1,4 @@
-use Rattle.std.proofs.Common.{true, ◌≡◌, ◌<◌, ◌≤◌, ◌∷◌, [], ◌++◌, ℕ, List, length, sym, ◌∙◌, ap, subst, arith, length-append, Option}
+use Rattle.std.proofs.Common.{true, ◌≡◌, ◌+◌, ◌<◌, ◌≤◌, ◌∷◌, [], ◌++◌, ℕ, List, length, sym, ◌∙◌, ap, subst, arith, length-append, Option}
 use Rattle.std.specs.Prelude.{IfSome}
 use Rattle.spool.specs.declared.note.Note.{Note}
 use Rattle.outside.specs.Disk.{HasAt}
@@ -6,18 +6,18 @@ use Rattle.spool_format.proofs.Moments.{quiet_then}
 use Rattle.spool_format.proofs.Pieces.{joined}
 use Rattle.spool_format.proofs.Replayed.{stand-push, replayed-push}
 use Rattle.spool_format.proofs.Spelled.{spelled-push}
-use Rattle.spool_format.specs.Format.{changed, spelled, record_bytes}
+use Rattle.spool_format.specs.Format.{changed, may_follow, spelled, record_bytes}
 use Rattle.spool_format.specs.Items.{IsStep}
 use Rattle.std.proofs.lemmas.Result.{err_from_is_err_and}
 use Rattle.outside.specs.Counts.{Rose}
-use Rattle.spool_format.specs.Unread.{NoRecord, NoRecordBehind}
+use Rattle.spool_format.specs.Unread.{NoChange, NoRecordBehind}
 use Rattle.spool_format.proofs.Given.{told_weaker, rose_earlier}
 use Rattle.spool_format.proofs.opening.records.Goals as goal
 
 pub returns-in_err-next-clause-fault : goal.returns-in_err-next-clause-fault
 returns-in_err-next-clause-fault g c =
     let p = err_from_is_err_and c.from_residual.result c.from_residual.ensures.1 in
-    let told = told_weaker _ (Rose (g.D.Disk.faults c.args.disk.now) (g.D.Disk.faults c.step.new.disk)) _ (λ place. g.D.Disk.tells c.args.disk.now ≡ true → NoRecordBehind (g.D.Disk.reads c.args.disk.now) c.args.start c.args.stop place)
+    let told = told_weaker _ (Rose (g.D.Disk.faults c.args.disk.now) (g.D.Disk.faults c.step.new.disk)) _ (λ place. g.D.Disk.tells c.args.disk.now ≡ true → NoRecordBehind (g.D.Disk.reads c.args.disk.now) c.args.queue.now.capacity c.args.start c.args.stop place)
     (rose_earlier (g.D.Disk.faults c.args.disk.now) (g.D.Disk.faults c.items.disk) _ c.items.invariant.faults)
     (λ place none t.
     let inv = c.items.invariant in
@@ -25,7 +25,8 @@ returns-in_err-next-clause-fault g c =
       records = inv.read.records;
       stand = inv.read.stand;
       there = inv.read.there t;
-      here = subst (λ (at : ℕ). NoRecord (g.D.Disk.reads c.args.disk.now) at c.args.stop place) inv.read.at_is (subst (λ (b : List ℕ). NoRecord b c.items.at c.args.stop place) (inv.quiet t).same (none (inv.tells ∙ t)));
+      here = subst (λ (ns : List Note). NoChange (g.D.Disk.reads c.args.disk.now) (c.args.start + length (spelled inv.read.records)) c.args.stop ns place) inv.read.notes_are
+          (subst (λ (at : ℕ). NoChange (g.D.Disk.reads c.args.disk.now) at c.args.stop c.items.queue.notes place) inv.read.at_is (subst (λ (b : List ℕ). NoChange b c.items.at c.args.stop c.items.queue.notes place) (inv.quiet t).same (none (inv.tells ∙ t))));
     })
     c.in_err-next.field-0.0 c.in_err-next.ensures.fault in
     rw (p.1, p.2) told
@@ -43,7 +44,7 @@ items-preserved g c =
     record {
       read = record {
         records = so_far.records ++ one.read ∷ [];
-        stand = stand-push so_far.records one.read so_far.stand one.opened one.may;
+        stand = stand-push cap [] so_far.records one.read so_far.stand one.opened one.can (sym (ap (λ (ns : List Note). may_follow one.read.1 ns) so_far.notes_are) ∙ one.may);
         notes_are = one.notes_are ∙ ap (λ (k : ℕ). changed k one.read.1 c.items.queue.notes) inv.capacity ∙ ap (λ (ns : List Note). changed cap one.read.1 ns) so_far.notes_are ∙ sym (replayed-push cap [] so_far.records one.read);
         at_is = omega (arith, one.next_is, so_far.at_is, ap length grown, length-append (spelled so_far.records) (record_bytes one.read));
         there = λ t.

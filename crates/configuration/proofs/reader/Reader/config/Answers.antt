@@ -5,21 +5,28 @@ use Rattle.toml.specs.View.{table_view}
 use Rattle.tool_tasks.specs.declared.recipes.Recipe.{Recipe}
 use Rattle.configuration.specs.declared.fault.ConfigFault.{ConfigFault}
 use Rattle.configuration.specs.Recipes.{recipe_for_all}
-use Rattle.configuration.specs.Rules.{rules, said_at, taken, broken_by, Noted, recipes, text}
+use Rattle.configuration.specs.Rules.{rules, most_chambers, most_ports, said_at, taken, broken_by, Noted, number, recipes, text}
 use Rattle.configuration.proofs.reader.Reader.config.Goals as goal
 
 -- what is noted behind one row more
 after : {A : Type 0} {b b' t : Option ConfigFault} {rule : ℕ} {key : List ℕ} {said : Option (Option A)} → Noted b b' rule key said → b ≡ t → b' ≡ option_or t (broken_by rule key said)
 after {rule} {key} {said} e before = e.noted ∙ ap (λ b. option_or b (broken_by rule key said)) before
 
--- the recipes are noted, for the chambers that the table gives
-noted_for : {b b' : Option ConfigFault} {rule : ℕ} {key : List ℕ} (k : List ℕ) (ms : Members) (n m : ℕ) → n ≡ m → Noted b b' rule key (said_at (recipes n) k ms) → Noted b b' rule key (said_at (recipes m) k ms)
-noted_for k ms n m e h = rw (← e) h
+-- a number is noted, for the greatest that the table has, and taken
+noted_to : {b b' : Option ConfigFault} {rule : ℕ} {key : List ℕ} (k : List ℕ) (ms : Members) (n m : ℕ) → n ≡ m → Noted b b' rule key (said_at (number 1 n) k ms) → Noted b b' rule key (said_at (number 1 m) k ms)
+noted_to k ms n m e h = rw (← e) h
 
--- the recipes, for the chambers that the table gives
-for_plant : (n m : ℕ) (default taken_recipes : List Recipe) (key : List ℕ) (ms : Members) → n ≡ m → default ≡ recipe_for_all n → taken_recipes ≡ taken default (said_at (recipes n) key ms)
-    → taken_recipes ≡ taken (recipe_for_all m) (said_at (recipes m) key ms)
-for_plant n m default taken_recipes key ms e d r = rw (← e, ← d) r
+taken_to : (n m default x : ℕ) (key : List ℕ) (ms : Members) → n ≡ m → x ≡ taken default (said_at (number 1 n) key ms) → x ≡ taken default (said_at (number 1 m) key ms)
+taken_to n m default x key ms e t = rw (← e) t
+
+-- the recipes are noted, as the version that the table gives has them, for its chambers
+noted_for : {b b' : Option ConfigFault} {rule : ℕ} {key : List ℕ} (k : List ℕ) (ms : Members) (v w n m : ℕ) → v ≡ w → n ≡ m → Noted b b' rule key (said_at (recipes v n) k ms) → Noted b b' rule key (said_at (recipes w m) k ms)
+noted_for k ms v w n m version e h = rw (← version, ← e) h
+
+-- the recipes, as the version that the table gives has them, for its chambers
+for_plant : (v w n m : ℕ) (default taken_recipes : List Recipe) (key : List ℕ) (ms : Members) → v ≡ w → n ≡ m → default ≡ recipe_for_all n → taken_recipes ≡ taken default (said_at (recipes v n) key ms)
+    → taken_recipes ≡ taken (recipe_for_all m) (said_at (recipes w m) key ms)
+for_plant v w n m default taken_recipes key ms version e d r = rw (← version, ← e, ← d) r
 
 -- a text, for the default as the table has it
 text_taken : (default same taken_text key : List ℕ) (ms : Members) → default ≡ same → taken_text ≡ taken default (said_at (text 20) key ms) → taken_text ≡ taken same (said_at (text 20) key ms)
@@ -28,8 +35,12 @@ text_taken default same taken_text key ms e t = rw (← e) t
 pub returns-clause-given : goal.returns-clause-given
 unfolding rules
 returns-clause-given c =
-    let rs = for_plant _ _ _ _ (codes "recipes") (table_view c.args.self.now.table.now) c.number-chambers.ensures.value c.recipe_for_all.ensures.value c.recipes-recipes.ensures.value in (
-      c.number-version.ensures.value,
+    let ms = table_view c.args.self.now.table.now in
+    let version = c.number-version.ensures.value in
+    let chambers = taken_to _ _ 2 _ (codes "chambers") ms (c.most_chambers.ensures.value ∙ ap most_chambers version) c.number-chambers.ensures.value in
+    let ports = taken_to _ _ 2 _ (codes "ports") ms (c.most_ports.ensures.value ∙ ap most_ports version) c.number-ports.ensures.value in
+    let rs = for_plant _ _ _ _ _ _ (codes "recipes") ms version chambers c.recipe_for_all-default.ensures.value c.recipes-recipes.ensures.value in (
+      version,
       (
         c.number-device.ensures.value,
         (
@@ -41,9 +52,9 @@ returns-clause-given c =
               (
                 c.control-control.ensures.value,
                 (
-                  c.number-chambers.ensures.value,
+                  chambers,
                   (
-                    c.number-ports.ensures.value,
+                    ports,
                     (
                       c.number-spool_capacity.ensures.value,
                       (
@@ -99,7 +110,13 @@ returns-clause-given c =
 pub returns-clause-broken : goal.returns-clause-broken
 unfolding rules
 returns-clause-broken c =
-    let rs = noted_for (codes "recipes") (table_view c.args.self.now.table.now) _ _ c.number-chambers.ensures.value c.recipes-recipes.ensures.broken in
+    let ms = table_view c.args.self.now.table.now in
+    let version = c.number-version.ensures.value in
+    let most = c.most_chambers.ensures.value ∙ ap most_chambers version in
+    let chambers = taken_to _ _ 2 _ (codes "chambers") ms most c.number-chambers.ensures.value in
+    let cs = noted_to (codes "chambers") ms _ _ most c.number-chambers.ensures.broken in
+    let ps = noted_to (codes "ports") ms _ _ (c.most_ports.ensures.value ∙ ap most_ports version) c.number-ports.ensures.broken in
+    let rs = noted_for (codes "recipes") ms _ _ _ _ version chambers c.recipes-recipes.ensures.broken in
     (after c.number-tcp_port.ensures.broken
     (after rs
     (after c.number-start_moment.ensures.broken
@@ -114,8 +131,8 @@ returns-clause-broken c =
     (after c.truth-overwrite.ensures.broken
     (after c.streams-spool_streams.ensures.broken
     (after c.number-spool_capacity.ensures.broken
-    (after c.number-ports.ensures.broken
-    (after c.number-chambers.ensures.broken
+    (after ps
+    (after cs
     (after c.control-control.ensures.broken
     (after c.communication-communication.ensures.broken
     (after c.text-softrev.ensures.broken

@@ -1,23 +1,22 @@
-use Rattle.std.proofs.Common.{rules, ◌≡◌, inr, ◌+◌, [], ◌∷◌, ℕ, List, length, take, refl, sym, ◌∙◌, ap, subst, arith}
+use Rattle.std.proofs.Common.{rules, true, ◌≡◌, inr, ◌+◌, [], ◌∷◌, ℕ, List, length, take, refl, sym, ◌∙◌, ap, subst, arith}
 use Rattle.std.specs.Prelude.{suc}
 use Rattle.std.proofs.lemmas.List.{nil_from_length, take_all}
-use Rattle.std.specs.List.{AllByRecursion}
 use Rattle.std.specs.Vec.Iter.{into_iter_items}
 use Rattle.spool.specs.declared.note.Note.{Note}
 use Rattle.outside.specs.Counts.{Rose}
 use Rattle.outside.specs.Disk.{Each}
 use Rattle.spool_format.specs.declared.change.Change.{Change}
-use Rattle.spool_format.specs.Format.{Sizes, CanStand, StandsFor, changed}
+use Rattle.spool_format.specs.Format.{Sizes, CanStand, StandsFor, changed, may_follow}
 use Rattle.spool_format.specs.Runs.{LeavesOnly}
 use Rattle.spool_format.proofs.Given.{told_weaker, rose_earlier}
 use Rattle.spool_format.proofs.Moments.{started, then, weaker}
-use Rattle.nv_spool.specs.Writing.{AfterSome, BeforeOrAfter, made}
+use Rattle.nv_spool.specs.Writing.{AfterSome, BeforeOrAfter, CanMake, made}
 use Rattle.nv_spool.proofs.Prefixes.{one_more, first_change}
 use Rattle.nv_spool.proofs.nv_spool.NvSpool.make_all.Goals as goal
 
 -- the first of the changes that are left, and those behind it
-first_of : (all : List Change) (one : Change) (others : List Change) → all ≡ one ∷ others → AllByRecursion CanStand all → CanStand one × AllByRecursion CanStand others
-first_of all one others is can = subst (AllByRecursion CanStand) is can
+first_of : (capacity : ℕ) (notes : List Note) (all : List Change) (one : Change) (others : List Change) → all ≡ one ∷ others → CanMake capacity notes all → CanStand one × (may_follow one notes ≡ true) × CanMake capacity (changed capacity one notes) others
+first_of capacity notes all one others is can = subst (CanMake capacity notes) is can
 
 -- one change more: some of the first ones, and one of those that are left
 more : {D : Type 0} (moment : D → ℕ) (left_since : D → ℕ → List ℕ → Type 0) (old mid new : D) (s : Sizes) (notes now : List Note) (count : ℕ) (all left : List Change) (change : Change) (behind : List Change) → left ≡ change ∷ behind
@@ -32,8 +31,11 @@ more moment left_since old mid new s notes now count all left change behind is s
     call
     (λ bytes either. later 1 bytes (subst (λ (l : List Change). AfterSome s now (take 1 l) bytes) (sym is) (first_change s now change behind bytes either)))
 
-pub make-requires : goal.make-requires
-make-requires g c = (first_of _ _ _ c.in-Some.ensures.steps.0 c.loop-change.invariant.changes).0
+pub make-requires-clause-can : goal.make-requires-clause-can
+make-requires-clause-can g c = (first_of c.args.self.now.sizes.capacity c.loop-change.self.notes _ _ _ c.in-Some.ensures.steps.0 c.loop-change.invariant.changes).0
+
+pub make-requires-clause-may : goal.make-requires-clause-may
+make-requires-clause-may g c = (first_of c.args.self.now.sizes.capacity c.loop-change.self.notes _ _ _ c.in-Some.ensures.steps.0 c.loop-change.invariant.changes).1
 
 pub overflow_add-count : goal.overflow_add-count
 overflow_add-count g c = omega (arith, c.loop-change.invariant.count, ap length c.in-Some.ensures.steps.0, c.args.changes.ok.0, c.args.changes.ok.1, c.args.changes.small)
@@ -44,7 +46,7 @@ loop-change-init g c =
     let notes = c.args.self.now.notes in
     let same : into_iter_items c.into_iter-change-iterator.result ≡ c.args.changes.items = search rules in
     record {
-      changes = subst (AllByRecursion CanStand) (sym same) c.requires.changes;
+      changes = subst (CanMake s.capacity notes) (sym same) c.requires.changes;
       count = omega (arith, ap length same);
       sizes = refl;
       opened = c.requires.opened;
@@ -68,7 +70,7 @@ loop-change-preserved g c =
     let behind = into_iter_items c.next.new.self in
     let after : c.make.new.self.notes ≡ changed s.capacity change now = c.in-Ok.ensures.after ∙ ap (λ (z : Sizes). changed z.capacity change now) inv.sizes in
     record {
-      changes = (first_of _ _ _ is inv.changes).1;
+      changes = subst (λ (ns : List Note). CanMake s.capacity ns behind) (sym after) (first_of s.capacity now _ _ _ is inv.changes).2;
       count = omega (arith, inv.count, ap length is);
       sizes = c.make.ensures.sizes ∙ inv.sizes;
       opened = c.in-Ok.ensures.opened;

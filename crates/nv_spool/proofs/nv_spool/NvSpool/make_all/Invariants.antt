@@ -1,15 +1,14 @@
 use Rattle.std.proofs.Common.{◌≡◌, ◌+◌, ◌≤◌, true, false, ℕ, List, length, take}
-use Rattle.std.specs.List.{AllByRecursion}
 use Rattle.std.specs.Vec.Iter.{into_iter_items}
 use Rattle.outside.specs.Disk.{Each}
-use Rattle.spool_format.specs.Format.{CanStand, StandsFor}
+use Rattle.spool_format.specs.Format.{StandsFor}
 use Rattle.spool_format.specs.Runs.{LeavesOnly}
-use Rattle.nv_spool.specs.Writing.{AfterSome, made}
+use Rattle.nv_spool.specs.Writing.{AfterSome, CanMake, made}
 use Rattle.nv_spool.proofs.nv_spool.NvSpool.make_all.Given as goal
 
 abbrev pub invariant-loop-change : goal.invariant-loop-change
 invariant-loop-change g l = record {
-  changes : AllByRecursion CanStand (into_iter_items l.change-iterator);
+  changes : CanMake l.fn.self.sizes.capacity l.self.notes (into_iter_items l.change-iterator);
   count : l.count + length (into_iter_items l.change-iterator) ≡ length l.fn.changes.items;
   sizes : l.self.sizes ≡ l.fn.self.sizes;
   opened : l.self.is_closed ≡ false;

@@ -1,4 +1,4 @@
-use Rattle.std.proofs.Common.{◌≡◌, ◌∷◌, [], ℕ, List, length, sym, ◌∙◌, ap, subst, arith, length-append}
+use Rattle.std.proofs.Common.{◌≡◌, ◌∷◌, [], ℕ, List, length, refl, sym, ◌∙◌, ap, subst, arith, length-append}
 use Rattle.std.specs.List.{All}
 use Rattle.spool.specs.declared.note.Note.{Note}
 use Rattle.spool_format.proofs.Given.{ok_given}
@@ -29,7 +29,7 @@ invariant_of-self-2 g c =
           let t = sym c.put_change.ensures.tells ∙ told in
           let text = c.as_slice.ensures.value ∙ c.in-Ok.ensures in
           let place = c.put_change.new.place in
-          let done = ok_given c.put_change.result (sym c.is_err.ensures.value ∙ c.if-is_err.false) c.put_change.ensures.settled t (Push c.args.overwrite c.args.note) text fits (inv.settled opened t) in
+          let done = ok_given c.put_change.result (sym c.is_err.ensures.value ∙ c.if-is_err.false) c.put_change.ensures.settled t (Push c.args.overwrite c.args.note) text fits refl (inv.settled opened t) in
           subst (λ (k : ℕ). Settled (sizes k place) place.selector place.end c.push.new.self.notes (g.D.Disk.leaves c.put_change.new.disk)) (sym capacity_is)
           (subst (λ (ns : List Note). Settled (sizes kept.queue.capacity place) place.selector place.end ns (g.D.Disk.leaves c.put_change.new.disk)) (sym notes_are) done);
     }

@@ -1,4 +1,4 @@
-use Rattle.std.proofs.Common.{◌≡◌, ℕ, List, sym, ◌∙◌, ap, subst}
+use Rattle.std.proofs.Common.{◌≡◌, ℕ, List, refl, sym, ◌∙◌, ap, subst}
 use Rattle.std.specs.List.{All}
 use Rattle.spool.specs.declared.note.Note.{Note}
 use Rattle.spool_format.proofs.Given.{ok_given}
@@ -23,7 +23,7 @@ invariant_of-self-2 g c =
       fits = subst (All Fits) (sym notes_are) (fits_taken kept.queue.notes inv.fits);
       settled = λ opened told.
           let t = sym c.put_change.ensures.tells ∙ told in
-          let done = ok_given c.put_change.result (sym c.is_err.ensures.value ∙ c.if-is_err.false) c.put_change.ensures.settled t Take c.take_text.ensures tt (inv.settled opened t) in
+          let done = ok_given c.put_change.result (sym c.is_err.ensures.value ∙ c.if-is_err.false) c.put_change.ensures.settled t Take c.take_text.ensures tt refl (inv.settled opened t) in
           subst (λ (k : ℕ). Settled (sizes k place) place.selector place.end c.take.new.self.notes (g.D.Disk.leaves c.put_change.new.disk)) (sym capacity_is)
           (subst (λ (ns : List Note). Settled (sizes kept.queue.capacity place) place.selector place.end ns (g.D.Disk.leaves c.put_change.new.disk)) (sym notes_are) done);
     }

@@ -1,33 +1,36 @@
-use Rattle.std.proofs.Common.{◌≡◌, ℕ, ◌+◌, ◌-◌, ◌<◌, ◌≤◌, length, Option, refl, sym, ap, ◌∙◌, arith}
+use Rattle.std.proofs.Common.{◌≡◌, ℕ, suc, ◌+◌, ◌-◌, ◌<◌, length, true, true≢false, Option, Some, None, is_some, refl, sym, ap, subst, ◌∙◌, arith}
 use Rattle.gem_ids.specs.declared.numbers.LocId.TheVariants.{Chamber}
-use Rattle.robot_moves.specs.Moves.{first_among}
 use Rattle.robot_moves.specs.declared.view.PlaceView.{PlaceView}
-use Rattle.robot_moves.proofs.Joined.{joined}
+use Rattle.robot_moves.proofs.First.{is_nothing}
 use Rattle.floor_model.specs.Views.{views}
-use Rattle.floor_model.specs.Picks.{pick_at, chamber_pick, better_of, given_by}
-use Rattle.floor_model.proofs.PlacePicks.{joined_given, joined_end}
+use Rattle.floor_model.specs.Picks.{pick_at, chamber_pick, last_of}
+use Rattle.floor_model.proofs.PlacePicks.{last_here, last_before}
 use Rattle.tool_floor.proofs.floor.ToolFloor.chamber_pick.Goals as goal
 
-pub loop-index-init : goal.loop-index-init
-loop-index-init c = (omega arith, refl)
+-- the number that is reached when so many of the greatest were passed
+module _ (gives : ℕ → Option PlaceView) (passed total : ℕ) (within : passed < total) where
+  reached : total - passed ≡ suc (total - (passed + 1))
+  reached = omega (arith, within)
 
-pub loop-index-preserved : goal.loop-index-preserved
-loop-index-preserved c =
-    let least = c.loop-index.invariant.0 in
-    let within : c.loop-index.index < length c.args.modules.now = omega (arith, c.loop-index-test.true, c.len-index-end.ensures.len) in
-    let same : c.loop-index.index - 1 ≡ c.loop-index.index + 1 - 2 = omega (arith, least) in (
-      omega (arith, least),
-      ap (λ (o : Option PlaceView). joined o (first_among (given_by (chamber_pick (views c.args.self.now) c.args.modules.now) (c.loop-index.index + 1 + 1) (length c.args.modules.now - (c.loop-index.index + 1)))))
-          (
-          c.better_of-best.ensures
-          ∙ ap (better_of c.loop-index.best) (c.pick_at.ensures ∙ ap (λ (n : ℕ). pick_at (c.loop-index.index + 1) (Chamber n) (views c.args.self.now) c.args.modules.now) same)
-          )
-          ∙ sym (joined_given (chamber_pick (views c.args.self.now) c.args.modules.now) c.loop-index.best c.loop-index.index (length c.args.modules.now) within)
-          ∙ c.loop-index.invariant.1,
-    )
+  here : (o : Option PlaceView) → gives (total - passed) ≡ o → is_some o ≡ true → last_of gives (total - passed) ≡ o
+  here None e some = absurd (true≢false (sym some))
+  here (Some v) e some = ap (last_of gives) reached ∙ last_here gives (total - (passed + 1)) v (subst (λ (n : ℕ). gives n ≡ Some v) reached e)
 
-pub returns : goal.returns
-returns c =
-    let past : length c.args.modules.now ≤ c.loop-index.index = omega (arith, c.loop-index-test.false, c.len-index-end.ensures.len) in
-    sym (joined_end (chamber_pick (views c.args.self.now) c.args.modules.now) c.loop-index.best c.loop-index.index (length c.args.modules.now) past)
-    ∙ c.loop-index.invariant.1
+  before : gives (total - passed) ≡ None → last_of gives (total - (passed + 1)) ≡ last_of gives (total - passed)
+  before none = sym (ap (last_of gives) reached ∙ last_before gives (total - (passed + 1)) (subst (λ (n : ℕ). gives n ≡ None) reached none))
+
+pub returns-then-is_some : goal.returns-then-is_some
+returns-then-is_some c =
+    let gives = chamber_pick (views c.args.self.now) c.args.modules.now in
+    let n = c.saturating_sub-chambers.result - c.loop-passed.passed in
+    let second : n + 2 ≡ suc (suc n) = omega arith in
+    let found = c.pick_at-found.ensures ∙ ap (λ (k : ℕ). pick_at k (Chamber n) (views c.args.self.now) c.args.modules.now) second in
+    found ∙ sym (here gives c.loop-passed.passed c.saturating_sub-chambers.result c.loop-passed-test.true _ refl (ap is_some (sym found) ∙ sym c.is_some.ensures ∙ c.if-is_some.true)) ∙ c.loop-passed.invariant
+
+pub loop-passed-preserved : goal.loop-passed-preserved
+loop-passed-preserved c =
+    let gives = chamber_pick (views c.args.self.now) c.args.modules.now in
+    let n = c.saturating_sub-chambers.result - c.loop-passed.passed in
+    let second : n + 2 ≡ suc (suc n) = omega arith in
+    let found = c.pick_at-found.ensures ∙ ap (λ (k : ℕ). pick_at k (Chamber n) (views c.args.self.now) c.args.modules.now) second in
+    before gives c.loop-passed.passed c.saturating_sub-chambers.result c.loop-passed-test.true (sym found ∙ is_nothing _ (sym c.is_some.ensures ∙ c.if-is_some.false)) ∙ c.loop-passed.invariant

@@ -1,0 +1,24 @@
+-- Notes that are printed, one after another.
+use Rattle.std.proofs.Common.{◌≡◌, ℕ, ◌+◌, ◌<◌, List, [], ◌∷◌, ◌++◌, length, take, drop, Option, Some, slice_get, refl, sym, ◌∙◌, ap, subst, append_assoc, arith, take-append-drop}
+use Rattle.std.specs.Prelude.{zero, suc}
+use Rattle.std.proofs.lemmas.List.{append-nil, take_all}
+use Rattle.outside.specs.Told.{Written, WrittenFront}
+use Rattle.outside.proofs.Writing.{Written-more, WrittenFront-more, WrittenFront-all, WrittenFront-wider}
+use Rattle.spool.specs.declared.note.Note.{Note}
+use Rattle.notes_lines.specs.Printed.{note_line, listed}
+
+-- one note more
+pub listed-next : (notes : List Note) (index : ℕ) (note : Note) → slice_get notes index ≡ Some note → listed (take (suc index) notes) ≡ listed (take index notes) ++ note_line note
+listed-next [] index note is = absurd cc
+listed-next (n ∷ notes) zero note is = let same : n ≡ note = cc in ap (λ (m : Note). note_line m ++ []) same ∙ append-nil (note_line note)
+listed-next (n ∷ notes) (suc index) note is =
+    ap (λ (t : List ℕ). note_line n ++ t) (listed-next notes index note is) ∙ sym (append_assoc (note_line n) (listed (take index notes)) (note_line note))
+
+listed-both : (front back : List Note) → listed (front ++ back) ≡ listed front ++ listed back
+listed-both [] back = refl
+listed-both (n ∷ front) back = ap (λ (t : List ℕ). note_line n ++ t) (listed-both front back) ∙ sym (append_assoc (note_line n) (listed front) (listed back))
+
+-- the first notes are a front of all
+pub listed-front : (a b : Option (List ℕ)) (notes : List Note) (index : ℕ) → WrittenFront a b (listed (take index notes)) → WrittenFront a b (listed notes)
+listed-front a b notes index front =
+    subst (WrittenFront a b) (sym (listed-both (take index notes) (drop index notes)) ∙ ap listed (take-append-drop index notes)) (WrittenFront-wider a b (listed (take index notes)) (listed (drop index notes)) front)

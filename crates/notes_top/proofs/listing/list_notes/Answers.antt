@@ -1,0 +1,20 @@
+use Rattle.std.proofs.Common.{◌≡◌, ℕ, ◌++◌, List, take, refl, sym, ◌∙◌, ap, subst, add-one}
+use Rattle.outside.specs.Told.{Written, WrittenFront}
+use Rattle.outside.proofs.Writing.{Written-more, WrittenFront-more, WrittenFront-all}
+use Rattle.notes_lines.specs.Printed.{note_line, listed}
+use Rattle.notes_top.proofs.Listed.{listed-next, listed-front}
+use Rattle.notes_top.proofs.listing.list_notes.Goals as goal
+
+pub returns-in_default-clause-front : goal.returns-in_default-clause-front
+returns-in_default-clause-front g c =
+    listed-front (g.K.Sink.held c.args.out.now) (g.K.Sink.held c.loop-index.out) c.args.queue.now.notes c.loop-index.index (WrittenFront-all _ _ _ c.loop-index.invariant.written)
+
+pub loop-index-preserved : goal.loop-index-preserved
+loop-index-preserved g c =
+    let line = c.as_bytes.ensures.value ∙ c.in-Ok.ensures in
+    let more = Written-more _ _ _ (listed (take c.loop-index.index c.args.queue.now.notes)) (note_line c.note_at.result.now) c.loop-index.invariant.written (rw line at c.in_ok-write_line.ensures.written) in
+    record {
+      written = rw (add-one c.loop-index.index, listed-next c.args.queue.now.notes c.loop-index.index c.note_at.result.now c.note_at.ensures) more;
+      faults = c.in_ok-write_line.ensures.unfailed.0 ∙ c.loop-index.invariant.faults;
+      refusals = c.in_ok-write_line.ensures.unfailed.1 ∙ c.loop-index.invariant.refusals;
+    }

@@ -3,7 +3,7 @@ use Rattle.std.proofs.Common.{◌≡◌, ◌≤◌, ℕ, nat_le, true, ◌&&◌,
 use Rattle.std.proofs.lemmas.Bool.{and_from}
 use Rattle.std.proofs.lemmas.Bool.Decides.{nat_tests}
 use Rattle.std.proofs.lemmas.Nat.Bits.{bit_at_ones}
-use Rattle.tool_events.specs.Configs.{has_one_of, are_usable, have_one_step, IsConfig}
+use Rattle.tool_events.specs.Configs.{has_one_of, are_usable, IsConfig}
 use Rattle.tool_events.specs.declared.config.Config.{Config}
 use Rattle.tool_tasks.specs.Chambers.{last_chamber, chambers_to}
 use Rattle.tool_tasks.specs.declared.recipes.Recipe.{Recipe}
@@ -16,9 +16,9 @@ all_usable chambers name some =
     any_listed (λ n. nat_le n chambers) (chambers_to chambers) 1 (omega arith) (omega arith) (grind (arith, bit_at_ones chambers 0 some)) (grind (arith, nat_tests, some)) in
     and_from (has_one_of chambers (chambers_to chambers) && true) true (and_from (has_one_of chambers (chambers_to chambers)) true has refl) refl
 
-pub is_config : (c : Config) (chambers ports : ℕ) (recipes : List Recipe) → IsConfig c → 1 ≤ chambers → chambers ≤ last_chamber → 1 ≤ ports → ports ≤ 4 → are_usable chambers recipes ≡ true → have_one_step recipes ≡ true
+pub is_config : (c : Config) (chambers ports : ℕ) (recipes : List Recipe) → IsConfig c → 1 ≤ chambers → chambers ≤ last_chamber → 1 ≤ ports → ports ≤ 4 → are_usable chambers recipes ≡ true
     → IsConfig (record c { chambers = chambers; ports = ports; recipes = recipes })
-is_config c chambers ports recipes is some few ports_some ports_few usable one_step = record {
+is_config c chambers ports recipes is some few ports_some ports_few usable = record {
   device = is.device;
   mdln_some = is.mdln_some;
   mdln = is.mdln;
@@ -45,5 +45,4 @@ is_config c chambers ports recipes is some few ports_some ports_few usable one_s
   bytes = is.bytes;
   start = is.start;
   recipes = usable;
-  one_step = one_step;
 }

@@ -1,7 +1,7 @@
 //! Configurations of plants with more chambers and ports than a text can say: under version 1 of its keys a text says one or two.
 
 ghost use Rattle.std.specs.Prelude.{◌≡◌, ◌≤◌, true, IfSome};
-ghost use Rattle.tool_events.specs.Configs.{are_usable, have_one_step, IsConfig};
+ghost use Rattle.tool_events.specs.Configs.{are_usable, IsConfig};
 ghost use Rattle.tool_tasks.specs.Chambers.{last_chamber};
 
 use gem_ids::Text80;
@@ -13,7 +13,6 @@ fn recipes_for(chambers: u8) -> Recipes
     requires first { 1 ≤ chambers }
     requires last { chambers ≤ last_chamber }
     ensures usable { are_usable chambers result ≡ true }
-    ensures one_step { have_one_step result ≡ true }
 {
     let mut recipes = Recipes::none();
     recipes.push(Recipe {

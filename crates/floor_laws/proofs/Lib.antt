@@ -36,6 +36,7 @@ pub mod JobProcess
 pub mod EndBase
 pub mod EndNames
 pub mod EndOpen
+pub mod EndRunning
 pub mod EndRows
 pub mod EndLost
 pub mod EndPlaces

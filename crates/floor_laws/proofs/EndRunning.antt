@@ -58,6 +58,10 @@ module _ (f : ToolFloor) (rest : floor_least f ≡ None) where
 
 -- ---- by the command
 
+-- by numbers it is a Process of its substrate
+pub process_numbered : (f : ToolFloor) (c : ToolCommand) (sub recipe : List ℕ) → c.task ≡ task.Process sub recipe → (n : ℕ) → number_named sub f.places ≡ Some n → task_of c.task f.places ≡ process n
+process_numbered f c sub recipe q n names = ap (λ (u : ToolTask). task_of u f.places) q ∙ ap (λ (o : Option ℕ). process (number_or_none o)) names
+
 -- it is known and IN PROCESS, in a chamber, and in a job
 pub record IsRunning (f : ToolFloor) (n : ℕ) : Type 0 where
   pub one : Substrate
@@ -68,8 +72,8 @@ pub record IsRunning (f : ToolFloor) (n : ℕ) : Type 0 where
   pub member : (picture f).jobs.is_member n ≡ true
 
 module _ (f : ToolFloor) (sound : Sound f) (rest : floor_least f ≡ None) (m : ℕ) (c : ToolCommand) (fetched : Bool) (here : module_at m f.modules ≡ Some (Busy c fetched)) where
-  pub is_running : (sub recipe : List ℕ) → c.task ≡ task.Process sub recipe → (n : ℕ) → number_named sub f.places ≡ Some n → IsRunning f n
-  is_running sub recipe q n names = record {
+  pub running_there : (sub recipe : List ℕ) → c.task ≡ task.Process sub recipe → (n : ℕ) → number_named sub f.places ≡ Some n → IsRunning f n
+  running_there sub recipe q n names = record {
     one = s.0;
     known = s.1;
     running = is_in_process f rest n s.0 s.1 (busy_processes f sound.base sound.valid.commands n s.0 s.1 m (command_of c f.places) busy_there t) stands.3;
@@ -81,7 +85,7 @@ module _ (f : ToolFloor) (sound : Sound f) (rest : floor_least f ≡ None) (m : 
     busy_there = busy_at f m c fetched here
 
     t : task_of c.task f.places ≡ process n
-    t = ap (λ (u : ToolTask). task_of u f.places) q ∙ ap (λ (o : Option ℕ). process (number_or_none o)) names
+    t = process_numbered f c sub recipe q n names
 
     stands : ProcessStands m n (picture f)
     stands = sound.valid.commands.processes m n (command_of c f.places) busy_there t

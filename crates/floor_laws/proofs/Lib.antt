@@ -43,6 +43,7 @@ pub mod EndPlaces
 pub mod EndMoves
 pub mod EndAnswers
 pub mod EndProcess
+pub mod EndStepped
 pub mod RegFound
 pub mod RegNames
 pub mod RegMore

@@ -1,5 +1,5 @@
 -- Done of a Process, and behind a Process that ended the row of its substrate; and a command that is fetched, which stays open.
-use Rattle.std.proofs.Common.{◌≡◌, ◌<◌, ℕ, ◌+◌, ◌==◌, nat_lt, Bool, true, false, if◌then◌else◌, List, [], ◌∷◌, length, Option, Some, None, option_map, refl, sym, ◌∙◌, ap, subst}
+use Rattle.std.proofs.Common.{◌≡◌, ◌<◌, ℕ, ◌+◌, ◌==◌, nat_lt, Bool, true, false, not, if◌then◌else◌, List, [], ◌∷◌, length, Option, Some, None, option_map, refl, sym, ◌∙◌, ap, subst}
 use Rattle.std.proofs.lemmas.Bool.{and_parts}
 use Rattle.std.proofs.lemmas.Bool.Decides.{Decides-eqb}
 use Rattle.gem_tables.specs.Table.{firing, after, is_one_of, is_among}
@@ -18,7 +18,8 @@ use Rattle.floor_model.specs.declared.tracked.Substrate.{Substrate}
 use Rattle.floor_model.specs.Floor.{ToolFloor, with_module, fetched, substrate_numbered, change_numbered}
 use Rattle.floor_model.specs.Machines.{substrate_starts, substrate_moves, with_moved, floor_starts, floor_fired}
 use Rattle.floor_model.specs.Modules.{number_named, module_behind, open_task, stepped, stepped_numbered, stepped_by}
-use Rattle.floor_model.specs.Views.{goes_on}
+use Rattle.floor_model.specs.Jobs.{job_of, is_job_so, is_aborting}
+use Rattle.floor_model.specs.Views.{route_for, goes_on}
 use Rattle.floor_moves.specs.Floor.{idle, is_finished}
 use Rattle.floor_moves.specs.Effects.{stepped as stepped_by_numbers}
 use Rattle.floor_moves.specs.Valid.{IsUnnamed}
@@ -28,7 +29,7 @@ use Rattle.floor_moves.proofs.Done.{stepped-keeps, finished-keeps}
 use Rattle.floor_moves.proofs.Moving.{idle_not_busy}
 use Rattle.place_laws.specs.Picture.{picture, module_of, of_one}
 use Rattle.place_laws.specs.Sound.{Sound}
-use Rattle.place_laws.proofs.Routes.{more_left}
+use Rattle.place_laws.proofs.Routes.{its_job, more_is}
 use Rattle.picture_laws.proofs.Closing.{stepping_agrees}
 use Rattle.picture_laws.proofs.Issuing.{changed_there, changed_else}
 use Rattle.picture_laws.proofs.Rows.{processing_agrees}
@@ -104,7 +105,11 @@ module _ (f : ToolFloor) (m : ℕ) (c : ToolCommand) (fetched : Bool) (here : mo
       begun = ap (of_one 0 (λ (x : Substrate). processing_number x.states.processing)) r.known ∙ ap processing_number r.running
 
       more : goes_on (substrate_numbered n f.substrates) f ≡ true → (picture f).steps_of n + 1 < length ((picture f).jobs.route_of n)
-      more e = more_left f n r.one r.known r.member e
+      more e =
+          let aborts = is_job_so is_aborting (job_of r.one f.jobs) in
+          let further = nat_lt (r.one.steps + 1) (length (route_for r.one f.jobs)) in
+          let j = its_job f n r.one r.known r.member in
+          more_is f n r.one r.known j.0 j.1 (and_parts (not aborts) further (sym (ap (λ (o : Option Substrate). goes_on o f) r.known) ∙ e)).1
 
       goes : goes_on (substrate_numbered n f.substrates) f ≡ true → (b : Bool) → nat_lt r.one.steps most_steps ≡ b → Sound (behind_done (change_numbered n stepped f.substrates))
       goes e false most = subst (λ (ss : List Substrate). Sound (behind_done ss)) (sym (unchanged n stepped f.substrates r.one r.known (at_most r.one most))) closed
@@ -133,7 +138,7 @@ finish f n row s known finished unnamed sound = record {
   base = changed_base n (substrate_moves 13 row) (moves_leaves 13 row) f sound.base;
   ports = sound.ports;
   unloading = sound.unloading;
-  valid = agree-keeps _ _ (processing_agrees f n row s known) (finished-keeps (picture f) n _ finished unnamed sound.valid);
+  valid = agree-keeps _ _ (processing_agrees f n row s known (λ is. finished)) (finished-keeps (picture f) n _ finished unnamed sound.valid);
 }
 
 -- so do these, where they start

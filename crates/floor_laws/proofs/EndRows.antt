@@ -1,7 +1,7 @@
 -- The rows of a substrate keep what holds: those of transport, and those of processing that are not of an answer or of `lost`.
-use Rattle.std.proofs.Common.{◌≡◌, ℕ, Bool, true, false, not, ◌&&◌, ◌||◌, [], ◌∷◌, Option, Some, None, refl, sym, ◌∙◌, ap, subst}
+use Rattle.std.proofs.Common.{◌≡◌, ℕ, ◌==◌, Bool, true, false, not, ◌&&◌, ◌||◌, [], ◌∷◌, Option, Some, None, refl, sym, ◌∙◌, ap, subst}
 use Rattle.std.specs.List.{list_any}
-use Rattle.std.proofs.lemmas.Bool.{and_parts, not-true}
+use Rattle.std.proofs.lemmas.Bool.{and_parts, not-true, true≢false}
 use Rattle.gem_tables.specs.Table.{firing, after, is_one_of, is_among, may_fire, first_itself}
 use Rattle.gem_tables.proofs.Rows.{one_of_cases, ready_row, ready_may_fire}
 use Rattle.gem_ids.specs.declared.numbers.LocId.{LocId}
@@ -49,13 +49,14 @@ pub is_needing : (p : Processing) → is_among processing_number (processing.Nee
 is_needing processing.NeedsProcessing e = refl
 is_needing _ e = absurd (cc)
 
--- the substrate goes to a state that may be
-worked_sound : (f : ToolFloor) (n row : ℕ) (s : Substrate) (state : ℕ) → substrate_numbered n f.substrates ≡ Some s → processing_number (after processing_number processing_table row s.states.processing) ≡ state → MayWork n state (picture f) → Sound f → Sound (with_moved 13 row n f)
-worked_sound f n row s state known goes may sound = record {
+-- the substrate goes to a state that may be, by a row that does no step
+worked_sound : (f : ToolFloor) (n row : ℕ) (s : Substrate) (state : ℕ) → substrate_numbered n f.substrates ≡ Some s → (row == 3) ≡ false → processing_number (after processing_number processing_table row s.states.processing) ≡ state → MayWork n state (picture f) → Sound f
+    → Sound (with_moved 13 row n f)
+worked_sound f n row s state known other goes may sound = record {
   base = changed_base n (substrate_moves 13 row) (moves_leaves 13 row) f sound.base;
   ports = sound.ports;
   unloading = sound.unloading;
-  valid = agree-keeps _ _ (processing_agrees f n row s known) (worked-keeps (picture f) n _ (subst (λ (k : ℕ). MayWork n k (picture f)) (sym goes) may) sound.valid);
+  valid = agree-keeps _ _ (processing_agrees f n row s known (λ is. absurd (true≢false (sym is ∙ other)))) (worked-keeps (picture f) n _ (subst (λ (k : ℕ). MayWork n k (picture f)) (sym goes) may) sound.valid);
 }
 
 module _ (f : ToolFloor) (n : ℕ) (sound : Sound f) (s : Substrate) (known : substrate_numbered n f.substrates ≡ Some s) (needs : s.states.processing ≡ processing.NeedsProcessing) where
@@ -85,12 +86,12 @@ module _ (f : ToolFloor) (n : ℕ) (sound : Sound f) (s : Substrate) (known : su
 
   -- row 2
   begins : list_any (processes s.sub) f.modules ≡ true → Sound (with_moved 13 2 n f)
-  begins processed_now = worked_sound f n 2 s 1 known (goes_to 2) (may_begin processed_now) sound
+  begins processed_now = worked_sound f n 2 s 1 known refl (goes_to 2) (may_begin processed_now) sound
 
   -- row 5
   skips : list_any (module_names s.sub) f.modules ≡ false → Sound (with_moved 13 5 n f)
   skips none =
-      worked_sound f n 5 s 7 known (goes_to 5) (record {
+      worked_sound f n 5 s 7 known refl (goes_to 5) (record {
         stays = λ t. refl;
         picked = λ m p k c i t. absurd (let b = busy_names f sound.base sound.valid.commands n s known m c i (ap named t) in cc);
         processed = λ m c i t. absurd (let b = busy_names f sound.base sound.valid.commands n s known m c i (ap named t) in cc);
@@ -126,9 +127,9 @@ module _ (f : ToolFloor) (n : ℕ) (sound : Sound f) (s : Substrate) (known : su
     of (Some r) q w = by r.at w (sym (place_is f sound.base s.sub r q) ∙ ap (place_in f.places) (number_is f sound.base n s r known q) ∙ at)
 
   -- it ends where no open Process names it
-  ends : (row state : ℕ) → processing_number (after processing_number processing_table row s.states.processing) ≡ state → is_finished state ≡ true → is_outside s f.places ≡ true → list_any (processes s.sub) f.modules ≡ false → Sound (with_moved 13 row n f)
-  ends row state goes finished out none =
-      worked_sound f n row s state known goes (record {
+  ends : (row state : ℕ) → (row == 3) ≡ false → processing_number (after processing_number processing_table row s.states.processing) ≡ state → is_finished state ≡ true → is_outside s f.places ≡ true → list_any (processes s.sub) f.modules ≡ false → Sound (with_moved 13 row n f)
+  ends row state other goes finished out none =
+      worked_sound f n row s state known other goes (record {
         stays = λ t. finished;
         picked = λ m p k c i t. absurd (not_in_slot out p k (sound.valid.commands.picks m n (slot p k) c i t).stands);
         processed = λ m c i t. absurd (let b = busy_processes f sound.base sound.valid.commands n s known m c i t in cc);
@@ -146,13 +147,13 @@ module _ (f : ToolFloor) (n : ℕ) (sound : Sound f) (s : Substrate) (known : su
   none_processes _ q among between e = absurd (cc)
 
   -- so each of them keeps what holds
-  stops : (row state : ℕ) (test : JobState → Bool) → processing_number (after processing_number processing_table row processing.NeedsProcessing) ≡ state → processing_number (after processing_number processing_table row processing.InProcess) ≡ state
+  stops : (row state : ℕ) (test : JobState → Bool) → (row == 3) ≡ false → processing_number (after processing_number processing_table row processing.NeedsProcessing) ≡ state → processing_number (after processing_number processing_table row processing.InProcess) ≡ state
       → is_finished state ≡ true → (is_begun_or_not s.states.processing && is_outside_of test s f) ≡ true → floor_starts (firing 13 n 2) f ≡ false → Sound (with_moved 13 row n f)
-  stops row state test needing running finished starts none =
+  stops row state test other needing running finished starts none =
       let w = and_parts (is_begun_or_not s.states.processing) (is_outside_of test s f) starts in
       let u = and_parts (is_outside s f.places && is_job_so test (job_of s f.jobs)) (is_between s f) w.1 in
       let out = and_parts (is_outside s f.places) (is_job_so test (job_of s f.jobs)) u.0 in
-      ends row state (goes_on_to row state needing running s.states.processing w.0) finished out.0 (none_processes s.states.processing refl w.0 u.1 none)
+      ends row state other (goes_on_to row state needing running s.states.processing w.0) finished out.0 (none_processes s.states.processing refl w.0 u.1 none)
 
 -- Row 1 in any state; the others where they start: 6 and 7 where row 2, which is the lesser, doesn't.
 pub processing_sound : (f : ToolFloor) (n row : ℕ) → floor_starts (firing 13 n row) f ≡ true → is_one_of (1 ∷ 2 ∷ 5 ∷ 6 ∷ 7 ∷ []) row ≡ true
@@ -181,11 +182,11 @@ processing_sound f n row starts one first sound =
 
     row_6 : (o : Option Substrate) → substrate_numbered n f.substrates ≡ o → substrate_starts processing_number processing_table (λ s. s.processing) 6 o f ≡ true → floor_starts (firing 13 n 2) f ≡ false → Sound (with_moved 13 6 n f)
     row_6 None q e none = absurd (cc)
-    row_6 (Some s) q e none = stops f n sound s q 6 4 is_stopping refl refl refl e none
+    row_6 (Some s) q e none = stops f n sound s q 6 4 is_stopping refl refl refl refl e none
 
     row_7 : (o : Option Substrate) → substrate_numbered n f.substrates ≡ o → substrate_starts processing_number processing_table (λ s. s.processing) 7 o f ≡ true → floor_starts (firing 13 n 2) f ≡ false → Sound (with_moved 13 7 n f)
     row_7 None q e none = absurd (cc)
-    row_7 (Some s) q e none = stops f n sound s q 7 3 is_aborting refl refl refl e none
+    row_7 (Some s) q e none = stops f n sound s q 7 3 is_aborting refl refl refl refl e none
 
 -- the row that is ready by itself at a substrate
 pub processing_ready_sound : (f : ToolFloor) (n row : ℕ) → processing_machine.ready n f ≡ Some row → Sound f → Sound (floor_fired (firing 13 n row) f)

@@ -28,7 +28,7 @@ use Rattle.floor_moves.specs.Valid.{Empty}
 use Rattle.place_laws.specs.Picture.{picture, loc_of, numbered, of_one, of_job}
 use Rattle.place_laws.specs.Sound.{Base}
 use Rattle.place_laws.proofs.Holding.{found_among, kept_there, own_place, IsThere}
-use Rattle.place_laws.proofs.Routes.{listed_next}
+use Rattle.place_laws.proofs.Routes.{its_job, listed_next}
 use Rattle.floor_laws.proofs.IssueHeld.{found_so, found_any, none_any, IsHeld, HasKept, all_held}
 use Rattle.place_laws.proofs.Names.{same_loc}
 
@@ -82,7 +82,7 @@ module _ (f : ToolFloor) (b : Base f) where
         finished = ap (λ (o : Option Substrate). is_finished_state (of_one 0 (λ (x : Substrate). processing_number x.states.processing) o)) h.found ∙ finished_number s.states.processing;
         aligned = ap (of_one false (λ (x : Substrate). x.aligned)) h.found;
         starts = ap (of_one false (of_job false (λ j. is_processing j.states.state) f.jobs)) h.found ∙ starts_so (job_of s f.jobs);
-        next = λ member c. listed_next f r.number s h.found member c;
+        next = λ member c. let j = its_job f r.number s h.found member in listed_next f r.number s h.found j.0 j.1 c;
       }
     where
       by_found : (x : Substrate) → substrate_numbered r.number f.substrates ≡ Some x → x ≡ s

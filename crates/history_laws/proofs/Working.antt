@@ -36,4 +36,4 @@ pub run-works : (c : Config) (entries : List Entry) (h : State) → c.ports ≤ 
 run-works c entries h ports chambers usable run up work =
     let rests : Rests h = run_at c entries h ports run in
     let order = rests.order in
-    open_while_work h.floor order.sound order.processed (run-equipped c entries h chambers usable run) rests.rest up work
+    open_while_work h.floor order.sound (run-equipped c entries h chambers usable run) rests.rest up work

@@ -1,15 +1,15 @@
 -- What stands where by numbers stands there for the planner: who is seen at a place, which modules are Idle, which targets are free, and who
 -- may leave.
-use Rattle.std.proofs.Common.{◌≡◌, ◌≤◌, ◌<◌, ℕ, zero, suc, ◌+◌, ◌==◌, Bool, true, false, ◌||◌, ◌&&◌, not, if◌then◌else◌, List, [], ◌∷◌, find, length, Option, Some, None, option_map, is_some, slice_get, refl, sym, ◌∙◌, ap, subst, arith}
+use Rattle.std.proofs.Common.{◌≡◌, ◌≤◌, ◌<◌, ℕ, zero, suc, ◌+◌, ◌==◌, nat_le, Bool, true, false, ◌||◌, ◌&&◌, not, if◌then◌else◌, List, [], ◌∷◌, find, length, Option, Some, None, option_map, is_some, slice_get, refl, sym, ◌∙◌, ap, subst, arith}
 use Rattle.std.specs.Option.{option_or}
-use Rattle.std.proofs.lemmas.Bool.{and_parts, and_from}
-use Rattle.std.proofs.lemmas.Bool.Decides.{Decides-eqb}
+use Rattle.std.proofs.lemmas.Bool.{and_parts, and_from, false_from_ne_true}
+use Rattle.std.proofs.lemmas.Bool.Decides.{Decides-eqb, nat_tests}
 use Rattle.gem_tables.specs.Table.{is_one_of}
 use Rattle.gem_ids.specs.declared.numbers.LocId.{LocId}
 use Rattle.gem_ids.specs.declared.numbers.LocId.TheVariants.{Slot, Aligner, Arm, Chamber}
 use Rattle.robot_moves.specs.Modules.{module_at, is_idle, chamber_module}
 use Rattle.tool_tasks.specs.Chambers.{has_chamber}
-use Rattle.robot_moves.specs.Moves.{first_of, holder, is_empty, is_free, chamber_where_free, free_chamber, where_free, free_target, may_leave, is_useful}
+use Rattle.robot_moves.specs.Moves.{first_of, holder, is_empty, is_free, chamber_where_free, free_chamber, where_free, free_target, is_next, may_leave, is_useful}
 use Rattle.robot_moves.specs.declared.module.Module.{Module as ToolModule}
 use Rattle.robot_moves.specs.declared.view.PlaceView.{PlaceView}
 use Rattle.substrate.specs.Locations.{is_same}
@@ -27,7 +27,6 @@ use Rattle.floor_laws.proofs.IssueViews.{IsSeen, holder_seen, none_seen}
 use Rattle.work_laws.proofs.Lists.{none_of}
 use Rattle.work_laws.proofs.Telling.{Tells, views_tell}
 use Rattle.place_laws.proofs.Names.{same_loc}
-use Rattle.place_laws.proofs.OneStep.{through_finished}
 
 -- ---- numbers of chambers and modules
 
@@ -150,11 +149,21 @@ module _ (f : ToolFloor) (b : Base f) (v : Valid (picture f)) (many : length f.m
           (and_from (is_empty Aligner (views f)) (is_idle (module_at 2 f.modules)) (empty_there Aligner ((has.1 (s.finished ∙ p)).at_aligner (s.aligned ∙ q))) aligner_there))
       of false p true q =
           let c = (has.1 (s.finished ∙ p)).in_chamber (s.aligned ∙ q) in
-          let chosen = t.chambers c.0 (ap (λ (k : ℕ). is_one_of (law.next_step k (picture f)) c.0) s.number ∙ c.1) in
+          let next = and_parts (nat_le 1 c.0 && nat_le c.0 8) (has_chamber w.chambers c.0) (t c.0 (ap (λ (k : ℕ). is_one_of (law.next_step k (picture f)) c.0) s.number ∙ c.1)) in
+          let lies = next.0 in
+          let least : 1 ≤ c.0 = grind (arith, nat_tests, lies) in
+          let most : c.0 ≤ 8 = grind (arith, nat_tests, lies) in
           let open_there : is_free (views f) f.modules (Chamber c.0) ≡ true = and_from (is_empty (Chamber c.0) (views f)) (is_idle (module_at (chamber_module c.0) f.modules)) (empty_there (Chamber c.0) c.3) (chamber_there c.0 c.2) in
-          by_aligned true p q (chamber_target (views f) f.modules w c.0 chosen.least chosen.most (and_from (has_chamber w.chambers c.0) (is_free (views f) f.modules (Chamber c.0)) chosen.has open_there))
+          by_aligned true p q (chamber_target (views f) f.modules w c.0 least most (and_from (has_chamber w.chambers c.0) (is_free (views f) f.modules (Chamber c.0)) next.1 open_there))
 
     -- ---- who may leave
+
+    -- the chambers of its next step for the planner are those by numbers, where it is in a job
+    due_there : (picture f).jobs.is_member n ≡ true → (c : ℕ) → is_next w c ≡ true → is_one_of (law.next_step n (picture f)) c ≡ true
+    due_there member c next =
+        let parts = and_parts (nat_le 1 c && nat_le c 8) (has_chamber w.chambers c) next in
+        let lies = parts.0 in
+        s.chambers member c (grind (arith, nat_tests, lies)) (grind (arith, nat_tests, lies)) parts.1
 
     leaves_there : (loc : LocId) → (picture f).place_of n ≡ Some (loc_of loc) → MayLeave n (loc_of loc) (picture f) → may_leave loc f.modules w ≡ true
     leaves_there (Slot p k) at may =
@@ -165,7 +174,13 @@ module _ (f : ToolFloor) (b : Base f) (v : Valid (picture f)) (many : length f.m
         and_from (is_idle (module_at 2 f.modules)) (w.finished || w.aligned) aligner_there
         (ap (λ (x : Bool). x || w.aligned) (sym s.finished) ∙ ap (λ (x : Bool). law.is_finished ((picture f).processing n) || x) (sym s.aligned) ∙ may)
     leaves_there Arm at may = absurd may
-    leaves_there (Chamber c) at may = and_from (is_idle (module_at (chamber_module c) f.modules)) w.finished (chamber_there c (v.places.chambers n c at)) (sym s.finished ∙ through_finished f v n c at may)
+    leaves_there (Chamber c) at may =
+        and_from (is_idle (module_at (chamber_module c) f.modules)) (w.finished || not (is_next w c)) (chamber_there c (v.places.chambers n c at))
+        (of w.finished (λ unfinished. false_from_ne_true (is_next w c) (λ next. let due = due_there (v.members.outside n (ap law.is_outside at)) c next in let through = may (s.finished ∙ unfinished) in cc)) refl)
+      where
+        of : (b : Bool) → (w.finished ≡ false → is_next w c ≡ false) → w.finished ≡ b → (b || not (is_next w c)) ≡ true
+        of true none e = refl
+        of false none e = ap not (none e)
 
     -- its pick is useful
     pub useful_there : (loc : LocId) → w.at ≡ loc → (picture f).place_of n ≡ Some (loc_of loc) → MayLeave n (loc_of loc) (picture f) → HasTarget n (picture f) → is_useful (views f) f.modules w ≡ true

@@ -50,7 +50,7 @@ pub fn a_place_is_done()
     ensures floor { behind (done 1) placing ≡ is_given 2 3 (task.Align wafer) (out_at Aligner) }
 {}
 
-/// Done of the Align: the substrate is aligned, where it is. It is of no job, so that its recipe has no chamber that it can go to.
+/// Done of the Align: the substrate is aligned, where it is. It is of no job, so that it has no next step, and no chamber that it can go to.
 pub fn an_align_is_done()
     ensures rest { settling aligning ≡ [] }
     ensures fired { firings (done 2) aligning ≡ firing 16 2 6 ∷ [] }
@@ -66,7 +66,7 @@ pub fn a_substrate_goes_out_to_the_aligner()
     ensures floor { behind_dones (1 ∷ 1 ∷ 2 ∷ []) picking ≡ commands_are 3 (aligned_at Aligner) }
 {}
 
-/// What is aligned and unfinished stays on the arm and at the aligner, as long as its recipe has no chamber, which is so where it is of
+/// What is aligned and unfinished stays on the arm and at the aligner, as long as its next step has no chamber, which is so where it is of
 /// no job.
 pub fn what_is_of_no_job_goes_to_no_chamber()
     ensures arm { settling (aligned_at Arm) ≡ [] }

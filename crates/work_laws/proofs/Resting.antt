@@ -78,7 +78,7 @@ module _ (f : ToolFloor) (b : Base f) (v : Valid (picture f)) (many : length f.m
   no_place : (n : ℕ) → (picture f).place_of n ≡ Some arm → HasTarget n (picture f) → ⊥
   no_place n at has =
       let w = shown f b v many idles n Arm at in
-      let some : is_some (free_target (views f) f.modules w.0) ≡ true = target_there f b v many idles n w.0 w.1.seen w.1.tells has in
+      let some : is_some (free_target (views f) f.modules w.0) ≡ true = target_there f b v many idles n w.0 w.1.seen has in
       let nothing : place_move (views f) f.modules w.0 ≡ None = sym (ap (arm_move (views f) f.modules) w.1.held) ∙ no_arm_move in
       let no_target : free_target (views f) f.modules w.0 ≡ None = mapped_none (λ (loc : LocId). move_by 1 1 (task.Place w.0.sub loc)) (free_target (views f) f.modules w.0) nothing in
       let not_some : is_some (free_target (views f) f.modules w.0) ≡ false = ap (λ (o : Option LocId). is_some o) no_target in
@@ -96,7 +96,7 @@ module _ (f : ToolFloor) (b : Base f) (v : Valid (picture f)) (many : length f.m
       of : (loc : LocId) → (picture f).place_of n ≡ Some (loc_of loc) → MayLeave n (loc_of loc) (picture f) → ⊥
       of loc at may =
           let w = shown f b v many idles n loc at in
-          let some : is_useful (views f) f.modules w.0 ≡ true = useful_there f b v many idles n w.0 w.1.seen w.1.tells loc w.1.at at may has in
+          let some : is_useful (views f) f.modules w.0 ≡ true = useful_there f b v many idles n w.0 w.1.seen loc w.1.at at may has in
           let not_some : is_useful (views f) f.modules w.0 ≡ false = (found_so (λ (x : PlaceView). is_useful (views f) f.modules x ≡ false) (λ (x : PlaceView). is_same x.at loc) (views f) w.0 (none_is (views f) f.modules no_best) w.1.held).0 in
           cc
 
@@ -135,7 +135,7 @@ module _ (f : ToolFloor) (b : Base f) (v : Valid (picture f)) (many : length f.m
       let most : chamber_module c ≤ length f.modules = omega (arith, more, many) in
       let w = shown f b v many idles n (Chamber c) at in
       let number : chamber_module c - 2 ≡ c = omega arith in
-      let next : is_next w.0 (chamber_module c - 2) ≡ true = ap (is_next w.0) number ∙ w.1.tells c (ap (λ (k : ℕ). is_one_of (law.next_step k (picture f)) c) w.1.seen.number ∙ due) in
+      let next : is_next w.0 (chamber_module c - 2) ≡ true = ap (is_next w.0) number ∙ sym (w.1.seen.next (v.members.outside n (ap law.is_outside at)) c) ∙ due in
       let both : (not w.0.finished && is_next w.0 (chamber_module c - 2)) ≡ true = and_from (not w.0.finished) (is_next w.0 (chamber_module c - 2)) (ap (λ (x : Bool). not x) (sym w.1.seen.finished ∙ unfinished)) next in
       let nothing : chamber_move (chamber_module c) (views f) f.modules ≡ None = sym (chamber_planned c least) ∙ none (chamber_module c) (omega arith) most in
       let behind : process_move (chamber_module c) (holder (Chamber (chamber_module c - 2)) (views f)) ≡ None = where_none (is_idle (module_at (chamber_module c) f.modules)) (process_move (chamber_module c) (holder (Chamber (chamber_module c - 2)) (views f))) nothing (idles (chamber_module c) (omega arith) most) in

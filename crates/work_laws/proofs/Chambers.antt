@@ -47,13 +47,10 @@ step_reaches count set e =
 -- what all of a list pass, one of it passes
 each_is : (test : ℕ → Bool) (ns : List ℕ) (n : ℕ) → list_all test ns ≡ true → is_one_of ns n ≡ true → test n ≡ true
 each_is test [] n all e = absurd (cc)
-each_is test (m ∷ ms) n all e = of (m == n) refl e where
-  both : (test m ≡ true) × (list_all test ms ≡ true)
-  both = and_parts (test m) (list_all test ms) all
-
-  of : (b : Bool) → (m == n) ≡ b → (b || is_one_of ms n) ≡ true → test n ≡ true
-  of true q e = subst (λ (k : ℕ). test k ≡ true) ((Decides-eqb m n).0 q) both.0
-  of false q e = each_is test ms n both.1 e
+each_is test (m ∷ ms) n all e = let both = and_parts (test m) (list_all test ms) all in of (m == n) refl both.0 e (each_is test ms n both.1) where
+  of : (b : Bool) → (m == n) ≡ b → test m ≡ true → (b || is_one_of ms n) ≡ true → (is_one_of ms n ≡ true → test n ≡ true) → test n ≡ true
+  of true q here e rest = subst (λ (k : ℕ). test k ≡ true) ((Decides-eqb m n).0 q) here
+  of false q here e rest = rest e
 
 -- ---- routes
 
@@ -74,53 +71,43 @@ module _ (count : ℕ) where
   abbrev HaveOne : List ℕ → Type 0
   HaveOne steps = list_all (has_one_of count) steps ≡ true
 
-  reaches_each : (steps : List ℕ) → HaveOne steps → (i : ℕ) → i < length (map chamber_list steps) → Reaches count (law.step_at i (map chamber_list steps))
-  reaches_each [] each i less = absurd (omega (arith, less))
-  reaches_each (step ∷ steps) each i less = of i less where
-    both : (has_one_of count step ≡ true) × HaveOne steps
-    both = and_parts (has_one_of count step) (list_all (has_one_of count) steps) each
-
-    of : (i : ℕ) → i < length (map chamber_list (step ∷ steps)) → Reaches count (law.step_at i (map chamber_list (step ∷ steps)))
-    of zero less = step_reaches count step both.0
-    of (suc i) less = reaches_each steps both.1 i (omega (arith, less))
+  reaches_each : (steps : List ℕ) (i : ℕ) → HaveOne steps → i < length (map chamber_list steps) → Reaches count (law.step_at i (map chamber_list steps))
+  reaches_each [] i each less = absurd (omega (arith, less))
+  reaches_each (step ∷ steps) zero each less = step_reaches count step (and_parts (has_one_of count step) (list_all (has_one_of count) steps) each).0
+  reaches_each (step ∷ steps) (suc i) each less = reaches_each steps i (and_parts (has_one_of count step) (list_all (has_one_of count) steps) each).1 (omega (arith, less))
 
   -- the chambers of a first step are below those of each that follows, since each step between them has a chamber
   first_below : (step : ℕ) (steps : List ℕ) (k c d : ℕ) → rises (step ∷ steps) ≡ true → HaveOne steps → is_one_of (chamber_list step) c ≡ true → is_one_of (law.step_at k (map chamber_list steps)) d ≡ true → c < d
   first_below step [] k c d rise each here there = absurd (cc)
-  first_below step (next ∷ steps) k c d rise each here there = of k there where
-    both : (is_before step next ≡ true) × (rises (next ∷ steps) ≡ true)
-    both = and_parts (is_before step next) (rises (next ∷ steps)) rise
+  first_below step (next ∷ steps) zero c d rise each here there = is_below step next c d (and_parts (is_before step next) (rises (next ∷ steps)) rise).0 here there
+  first_below step (next ∷ steps) (suc k) c d rise each here there =
+      let both = and_parts (is_before step next) (rises (next ∷ steps)) rise in
+      let has = and_parts (has_one_of count next) (list_all (has_one_of count) steps) each in
+      let between = step_reaches count next has.0 in
+      let less = is_below step next c between.0 both.0 here between.1 in
+      let more = first_below next steps k between.0 d both.1 has.1 between.1 there in
+      omega (arith, less, more)
 
-    has : (has_one_of count next ≡ true) × HaveOne steps
-    has = and_parts (has_one_of count next) (list_all (has_one_of count) steps) each
+  -- behind the first step a route rises
+  later_rises : (step : ℕ) (steps : List ℕ) → rises (step ∷ steps) ≡ true → rises steps ≡ true
+  later_rises step [] e = refl
+  later_rises step (next ∷ steps) e = (and_parts (is_before step next) (rises (next ∷ steps)) e).1
 
-    of : (k : ℕ) → is_one_of (law.step_at k (map chamber_list (next ∷ steps))) d ≡ true → c < d
-    of zero there = is_below step next c d both.0 here there
-    of (suc k) there =
-        let between = step_reaches count next has.0 in
-        let less = is_below step next c between.0 both.0 here between.1 in
-        let more = first_below next steps k between.0 d both.1 has.1 between.1 there in
-        omega (arith, less, more)
-
-  rises_each : (steps : List ℕ) → rises steps ≡ true → HaveOne steps → (i j c d : ℕ) → i < j → is_one_of (law.step_at i (map chamber_list steps)) c ≡ true → is_one_of (law.step_at j (map chamber_list steps)) d ≡ true → c < d
-  rises_each [] rise each i j c d less here there = absurd (cc)
-  rises_each (step ∷ steps) rise each i j c d less here there = of i j less here there where
-    both : (has_one_of count step ≡ true) × HaveOne steps
-    both = and_parts (has_one_of count step) (list_all (has_one_of count) steps) each
-
-    rest : (steps : List ℕ) → rises (step ∷ steps) ≡ true → rises steps ≡ true
-    rest [] e = refl
-    rest (next ∷ steps) e = (and_parts (is_before step next) (rises (next ∷ steps)) e).1
-
-    of : (i j : ℕ) → i < j → is_one_of (law.step_at i (map chamber_list (step ∷ steps))) c ≡ true → is_one_of (law.step_at j (map chamber_list (step ∷ steps))) d ≡ true → c < d
-    of i zero less here there = absurd (omega (arith, less))
-    of zero (suc j) less here there = first_below step steps j c d rise both.1 here there
-    of (suc i) (suc j) less here there = rises_each steps (rest steps rise) both.1 i j c d (omega (arith, less)) here there
+  rises_each : (steps : List ℕ) (i j c d : ℕ) → rises steps ≡ true → HaveOne steps → i < j → is_one_of (law.step_at i (map chamber_list steps)) c ≡ true → is_one_of (law.step_at j (map chamber_list steps)) d ≡ true → c < d
+  rises_each [] i j c d rise each less here there = absurd (cc)
+  rises_each (step ∷ steps) zero zero c d rise each less here there = absurd (omega (arith, less))
+  rises_each (step ∷ steps) (suc i) zero c d rise each less here there = absurd (omega (arith, less))
+  rises_each (step ∷ steps) zero (suc j) c d rise each less here there = first_below step steps j c d rise (and_parts (has_one_of count step) (list_all (has_one_of count) steps) each).1 here there
+  rises_each (step ∷ steps) (suc i) (suc j) c d rise each less here there =
+      rises_each steps i j c d (later_rises step steps rise) (and_parts (has_one_of count step) (list_all (has_one_of count) steps) each).1 (omega (arith, less)) here there
 
   -- a route that has steps, each with a chamber of the tool, and that rises
   steps_good : (route : List ℕ) → nat_le 1 (length route) ≡ true → rises route ≡ true → HaveOne route → IsGood count (some_steps (map chamber_list route))
   steps_good [] some rise each = absurd (cc)
-  steps_good (step ∷ steps) some rise each = record { reach = reaches_each (step ∷ steps) each; rise = rises_each (step ∷ steps) rise each }
+  steps_good (step ∷ steps) some rise each = record {
+    reach = λ i less. reaches_each (step ∷ steps) i each less;
+    rise = λ i j c d less here there. rises_each (step ∷ steps) i j c d rise each less here there;
+  }
 
 -- ---- recipes
 

@@ -22,7 +22,7 @@ pub fn a_command_is_open_while_work_is_left()
         → is_any_down f.modules ≡ false → is_work_left f ≡ true → is_any_open f.modules ≡ true }
 {}
 
-/// What the tool has for its process jobs it has as it begins, where each recipe has one of its chambers; and that is kept by each
+/// What the tool has for its process jobs it has as it begins, where each step of each recipe has one of its chambers; and that is kept by each
 /// row, where a command is fetched, however load ports and carriers change, where a process job is created against which no fault
 /// stands, and however control jobs change.
 pub fn the_tool_stays_equipped()

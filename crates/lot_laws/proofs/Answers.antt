@@ -36,10 +36,9 @@ use Rattle.picture_laws.proofs.Columns.{says_same}
 use Rattle.picture_laws.proofs.Closing.{modules_behind, aligning_agrees}
 use Rattle.floor_laws.proofs.EndNames.{named_place, number_there, named_kept}
 use Rattle.floor_laws.proofs.EndOpen.{command_of, busy_at}
-use Rattle.lot_laws.specs.Lot.{one_step, owed_to}
+use Rattle.owed_laws.specs.Owed.{owed_to}
 use Rattle.owed_laws.specs.Undisturbed.{Undisturbed, SubstratesStand, OneLess}
 use Rattle.owed_laws.proofs.Agreeing.{agree-undisturbed}
-use Rattle.lot_laws.proofs.Owing.{agree-owed}
 use Rattle.owed_laws.proofs.Decreasing.{done_pick-falls, done_place-falls, done_align-falls, finished-falls}
 use Rattle.lot_laws.specs.Lot.{IsInJob, Waits, Executes}
 use Rattle.lot_laws.proofs.Standing.{on_base, undisturbed}
@@ -49,10 +48,10 @@ use Rattle.floor_laws.proofs.EndProcess.{is_running}
 use Rattle.floor_laws.proofs.EndMoves.{Written, behind, pick_written, place_written}
 use Rattle.floor_moves.proofs.Maps.{set_else}
 
-module _ (number : ℕ) (counted : ℕ → Bool) (f : ToolFloor) (e : Executes number counted f) where
+module _ (number : ℕ) (planned : ℕ → List (List ℕ)) (counted : ℕ → Bool) (f : ToolFloor) (e : Executes number planned counted f) where
   -- it executes on where no more than places and modules change, who is done stays so, and the substrates stand
   pub places-executes : (p : PlaceMap) (ms : List ToolModule) → ((k : ℕ) → is_done k (picture f) ≡ true → is_done k (picture (record f { places = p; modules = ms })) ≡ true)
-      → SubstratesStand counted (picture (record f { places = p; modules = ms })) → Executes number counted (record f { places = p; modules = ms })
+      → SubstratesStand counted (picture (record f { places = p; modules = ms })) → Executes number planned counted (record f { places = p; modules = ms })
   places-executes p ms done stand = record {
     steers = e.steers;
     here = e.here;
@@ -61,15 +60,15 @@ module _ (number : ℕ) (counted : ℕ → Bool) (f : ToolFloor) (e : Executes n
     all = e.all;
     substrates = stand;
   } where
-    by : (n : ℕ) (x : Substrate) → (is_done n (picture f) ≡ true) ⊎ (IsInJob number x f ⊎ Waits number x f) → (is_done n (picture (record f { places = p; modules = ms })) ≡ true) ⊎ (IsInJob number x (record f { places = p; modules = ms }) ⊎ Waits number x (record f { places = p; modules = ms }))
+    by : (n : ℕ) (x : Substrate) → (is_done n (picture f) ≡ true) ⊎ (IsInJob number (planned n) x f ⊎ Waits number (planned n) x f) → (is_done n (picture (record f { places = p; modules = ms })) ≡ true) ⊎ (IsInJob number (planned n) x (record f { places = p; modules = ms }) ⊎ Waits number (planned n) x (record f { places = p; modules = ms }))
     by n x (inl is) = inl (done n is)
     by n x (inr (inl its)) = inr (inl its)
-    by n x (inr (inr w)) = inr (inr (record { at = w.at; job = w.job; kept = w.kept; left = w.left; first = w.first; queued = w.queued; joins = w.joins }))
+    by n x (inr (inr w)) = inr (inr (record { at = w.at; job = w.job; kept = w.kept; left = w.left; first = w.first; goes_by = w.goes_by; queued = w.queued; joins = w.joins }))
 
-module _ (number : ℕ) (counted : ℕ → Bool) (f : ToolFloor) (sound : Sound f) (e : Executes number counted f) (m : ℕ) (c : ToolCommand) (fetched : Bool) (here : module_at m f.modules ≡ Some (Busy c fetched)) where
+module _ (number : ℕ) (planned : ℕ → List (List ℕ)) (counted : ℕ → Bool) (f : ToolFloor) (sound : Sound f) (e : Executes number planned counted f) (m : ℕ) (c : ToolCommand) (fetched : Bool) (here : module_at m f.modules ≡ Some (Busy c fetched)) where
   -- it executes on, and one less is owed
   abbrev Falls : ToolFloor → Type 0
-  Falls g = Executes number counted g × (owed_to counted (picture g) + 1 ≡ owed_to counted (picture f))
+  Falls g = Executes number planned counted g × (owed_to planned counted (picture g) + 1 ≡ owed_to planned counted (picture f))
 
   u : Undisturbed counted (picture f)
   u = undisturbed number counted f (on_base f sound.base) e
@@ -81,7 +80,7 @@ module _ (number : ℕ) (counted : ℕ → Bool) (f : ToolFloor) (sound : Sound 
 
   transfer-falls : (sub : List ℕ) (from to : LocId) → Written f sound m c fetched here sub from to → is_done (numbered sub f.places) (picture f) ≡ false → OneLess (one_step (picture f)) counted (picture f) (moved (numbered sub f.places) (loc_of to) m (picture f)) → Falls (floor_fired (firing 16 m 5) f)
   transfer-falls sub from to w left less = subst Falls (sym w.fires) (
-    places-executes number counted f e (record f.places { held = moved_to sub to f.places.held }) (change_module m (module_behind 5) f.modules) done (agree-undisturbed _ _ w.agrees counted w.valid less.0).substrates,
+    places-executes number planned counted f e (record f.places { held = moved_to sub to f.places.held }) (change_module m (module_behind 5) f.modules) done (agree-undisturbed _ _ w.agrees counted w.valid less.0).substrates,
     ap (λ (k : ℕ). k + 1) (agree-owed _ _ w.agrees counted) ∙ less.1,
   ) where
     done : (k : ℕ) → is_done k (picture f) ≡ true → is_done k (picture (behind f sound m c fetched here (record f.places { held = moved_to sub to f.places.held }))) ≡ true
@@ -115,7 +114,7 @@ module _ (number : ℕ) (counted : ℕ → Bool) (f : ToolFloor) (sound : Sound 
   aligned-executes : (n : ℕ) (s : Substrate) → substrate_numbered n f.substrates ≡ Some s → Valid (aligned_by_numbers n m (picture f)) → OneLess (one_step (picture f)) counted (picture f) (aligned_by_numbers n m (picture f))
       → Falls (with_module m (module_behind 6) (record f { substrates = change_numbered n aligned f.substrates }))
   aligned-executes n s found valid less = (
-    change-executes number counted f e n aligned (λ x. refl) (λ x. refl) (λ x. (refl, refl)) (change_module m (module_behind 6) f.modules) agrees.jobs.is_member (λ k kept is. done k ∙ is) (λ x there w. w.joins) (λ j x can. can) (agree-undisturbed _ _ agrees counted valid less.0).substrates,
+    change-executes number planned counted f e n aligned (λ x. refl) (λ x. refl) (λ x. (refl, refl)) (change_module m (module_behind 6) f.modules) agrees.jobs.is_member (λ k kept is. done k ∙ is) (λ x there w. w.joins) (λ j x can. can) (agree-undisturbed _ _ agrees counted valid less.0).substrates,
     ap (λ (k : ℕ). k + 1) (agree-owed _ _ agrees counted) ∙ less.1,
   ) where
     agrees : Agree (aligned_by_numbers n m (picture f)) (picture (with_module m (module_behind 6) (record f { substrates = change_numbered n aligned f.substrates })))
@@ -140,7 +139,7 @@ module _ (number : ℕ) (counted : ℕ → Bool) (f : ToolFloor) (sound : Sound 
 
   -- the one row of a command that is no Process
   pub done_moved-falls : (t : ToolTask) → c.task ≡ t → ((sub recipe : List ℕ) → t ≡ task.Process sub recipe → ⊥)
-      → Executes number counted (floor_fired (firing 16 m (done_row t)) f) × (owed_to counted (picture (floor_fired (firing 16 m (done_row t)) f)) + 1 ≡ owed_to counted (picture f))
+      → Executes number planned counted (floor_fired (firing 16 m (done_row t)) f) × (owed_to planned counted (picture (floor_fired (firing 16 m (done_row t)) f)) + 1 ≡ owed_to planned counted (picture f))
   done_moved-falls (task.Pick sub from) q other = pick-falls sub from q
   done_moved-falls (task.Place sub to) q other = place-falls sub to q
   done_moved-falls (task.Align sub) q other = align-falls sub q
@@ -154,9 +153,9 @@ module _ (number : ℕ) (counted : ℕ → Bool) (f : ToolFloor) (sound : Sound 
   same_equipment : (k : ℕ) → (picture closed).equipment k ≡ (turned m idle (picture f)).equipment k
   same_equipment k = modules_behind m (module_behind 7) (Busy c fetched) idle f here refl k
 
-  pub closed-executes : Executes number counted (floor_fired (firing 16 m 7) f) × (owed_to counted (picture (floor_fired (firing 16 m 7) f)) ≡ owed_to counted (picture f))
+  pub closed-executes : Executes number planned counted (floor_fired (firing 16 m 7) f) × (owed_to planned counted (picture (floor_fired (firing 16 m 7) f)) ≡ owed_to planned counted (picture f))
   closed-executes = (
-    places-executes number counted f e f.places (change_module m (module_behind 7) f.modules) (λ k is. is) (record {
+    places-executes number planned counted f e f.places (change_module m (module_behind 7) f.modules) (λ k is. is) (record {
       here = e.substrates.here;
       finished = e.substrates.finished;
       in_slot = e.substrates.in_slot;
@@ -173,12 +172,12 @@ module _ (number : ℕ) (counted : ℕ → Bool) (f : ToolFloor) (sound : Sound 
 
 -- ---- its second row, of the substrate
 
-module _ (number : ℕ) (counted : ℕ → Bool) (f : ToolFloor) (e : Executes number counted f) (n : ℕ) (sound : Sound f) (unnamed : IsUnnamed n (picture f)) where
+module _ (number : ℕ) (planned : ℕ → List (List ℕ)) (counted : ℕ → Bool) (f : ToolFloor) (e : Executes number planned counted f) (n : ℕ) (sound : Sound f) (unnamed : IsUnnamed n (picture f)) where
   -- row 3 or 4 of table 13 of a substrate in a chamber, that is in a job, with no open command any more
   pub processed-falls : (row d : ℕ) → is_one_of (3 ∷ 4 ∷ []) row ≡ true → floor_starts (firing 13 n row) f ≡ true → (picture f).place_of n ≡ Some (law.chamber d) → (picture f).jobs.is_member n ≡ true
-      → Executes number counted (floor_fired (firing 13 n row) f) × (owed_to counted (picture (floor_fired (firing 13 n row) f)) + 1 ≡ owed_to counted (picture f))
+      → Executes number planned counted (floor_fired (firing 13 n row) f) × (owed_to planned counted (picture (floor_fired (firing 13 n row) f)) + 1 ≡ owed_to planned counted (picture f))
   processed-falls row d one starts at member =
-      one_of_cases (λ (r : ℕ). floor_starts (firing 13 n r) f ≡ true → Executes number counted (floor_fired (firing 13 n r) f) × (owed_to counted (picture (floor_fired (firing 13 n r) f)) + 1 ≡ owed_to counted (picture f)))
+      one_of_cases (λ (r : ℕ). floor_starts (firing 13 n r) f ≡ true → Executes number planned counted (floor_fired (firing 13 n r) f) × (owed_to planned counted (picture (floor_fired (firing 13 n r) f)) + 1 ≡ owed_to planned counted (picture f)))
       (3 ∷ 4 ∷ []) row ((λ s. row_3 (substrate_numbered n f.substrates) refl s), ((λ s. row_4 (substrate_numbered n f.substrates) refl s), tt)) one starts
     where
       u : Undisturbed counted (picture f)
@@ -187,20 +186,20 @@ module _ (number : ℕ) (counted : ℕ → Bool) (f : ToolFloor) (e : Executes n
       running : (s : Substrate) → substrate_numbered n f.substrates ≡ Some s → s.states.processing ≡ processing.InProcess → law.is_finished ((picture f).processing n) ≡ false
       running s found is = ap (λ (o : Option Substrate). law.is_finished (of_one 0 (λ (x : Substrate). processing_number x.states.processing) o)) found ∙ ap (λ (p : Processing). law.is_finished (processing_number p)) is
 
-      row_3 : (o : Option Substrate) → substrate_numbered n f.substrates ≡ o → substrate_starts processing_number processing_table (λ s. s.processing) 3 o f ≡ true → Executes number counted (with_moved 13 3 n f) × (owed_to counted (picture (with_moved 13 3 n f)) + 1 ≡ owed_to counted (picture f))
+      row_3 : (o : Option Substrate) → substrate_numbered n f.substrates ≡ o → substrate_starts processing_number processing_table (λ s. s.processing) 3 o f ≡ true → Executes number planned counted (with_moved 13 3 n f) × (owed_to planned counted (picture (with_moved 13 3 n f)) + 1 ≡ owed_to planned counted (picture f))
       row_3 None q s = absurd (cc)
       row_3 (Some x) q s =
           let is = is_running x.states.processing (and_parts (is_among processing_number (processing.InProcess ∷ []) x.states.processing) true s).0 in
           let goes : state_behind 3 x ≡ 2 = ap (λ (p : Processing). processing_number (after processing_number processing_table 3 p)) is in
           let less : OneLess (one_step (picture f)) counted (picture f) (worked n (state_behind 3 x) (picture f)) = subst (λ (k : ℕ). OneLess (one_step (picture f)) counted (picture f) (worked n k (picture f))) (sym goes) (finished-falls (one_step (picture f)) counted (picture f) n d 2 unnamed sound.valid u at (running x q is) (sound.valid.places.chambers n d at) refl refl) in
           let valid = finished-keeps (picture f) n (state_behind 3 x) (ap law.is_finished goes) unnamed sound.valid in
-          (worked-executes number counted f sound.base e n 3 x q member (running x q is) valid less.0, ap (λ (k : ℕ). k + 1) (worked_owed number counted f sound.base e n 3 x q member (running x q is) valid less.0) ∙ less.1)
+          (worked-executes number planned counted f sound.base e n 3 x q member (running x q is) valid less.0, ap (λ (k : ℕ). k + 1) (worked_owed number planned counted f sound.base e n 3 x q member (running x q is) valid less.0) ∙ less.1)
 
-      row_4 : (o : Option Substrate) → substrate_numbered n f.substrates ≡ o → substrate_starts processing_number processing_table (λ s. s.processing) 4 o f ≡ true → Executes number counted (with_moved 13 4 n f) × (owed_to counted (picture (with_moved 13 4 n f)) + 1 ≡ owed_to counted (picture f))
+      row_4 : (o : Option Substrate) → substrate_numbered n f.substrates ≡ o → substrate_starts processing_number processing_table (λ s. s.processing) 4 o f ≡ true → Executes number planned counted (with_moved 13 4 n f) × (owed_to planned counted (picture (with_moved 13 4 n f)) + 1 ≡ owed_to planned counted (picture f))
       row_4 None q s = absurd (cc)
       row_4 (Some x) q s =
           let is = is_running x.states.processing (and_parts (is_among processing_number (processing.InProcess ∷ []) x.states.processing) true s).0 in
           let goes : state_behind 4 x ≡ 3 = ap (λ (p : Processing). processing_number (after processing_number processing_table 4 p)) is in
           let less : OneLess (one_step (picture f)) counted (picture f) (worked n (state_behind 4 x) (picture f)) = subst (λ (k : ℕ). OneLess (one_step (picture f)) counted (picture f) (worked n k (picture f))) (sym goes) (finished-falls (one_step (picture f)) counted (picture f) n d 3 unnamed sound.valid u at (running x q is) (sound.valid.places.chambers n d at) refl refl) in
           let valid = finished-keeps (picture f) n (state_behind 4 x) (ap law.is_finished goes) unnamed sound.valid in
-          (worked-executes number counted f sound.base e n 4 x q member (running x q is) valid less.0, ap (λ (k : ℕ). k + 1) (worked_owed number counted f sound.base e n 4 x q member (running x q is) valid less.0) ∙ less.1)
+          (worked-executes number planned counted f sound.base e n 4 x q member (running x q is) valid less.0, ap (λ (k : ℕ). k + 1) (worked_owed number planned counted f sound.base e n 4 x q member (running x q is) valid less.0) ∙ less.1)

@@ -29,7 +29,7 @@ use Rattle.place_laws.proofs.Holding.{found_among, rising_given}
 use Rattle.floor_laws.proofs.JobSays.{member_tells, any_found}
 use Rattle.owed_laws.specs.Owed.{commands_for}
 use Rattle.owed_laws.proofs.Totals.{sum_same}
-use Rattle.lot_laws.specs.Lot.{one_step, owed_to}
+use Rattle.owed_laws.specs.Owed.{owed_to}
 use Rattle.owed_laws.specs.Undisturbed.{AreUnaligned, Begins}
 use Rattle.owed_laws.proofs.Beginning.{begins_undisturbed, begins_owed}
 use Rattle.queue_laws.specs.Started.{is_queued, is_left_in, AreStarted}
@@ -149,7 +149,7 @@ module _ (number row : ℕ) (f : ToolFloor) (h : Sound f) (t : AreTogether f.job
     left_now : (job : List ℕ) → is_left_in number job behind.jobs ≡ true → is_left_in number job f.jobs ≡ true
     left_now job left = started_left number f.jobs t s row (is_first_here number f) c at starts its_row job left
 
-    pub executes_then : Executes number counted (floor_fired (firing 15 number row) f)
+    pub executes_then : Executes number planned counted (floor_fired (firing 15 number row) f)
     executes_then = record {
       steers = begin-steers number f.jobs t s row (is_first_here number f) c at starts its_row auto;
       here = λ k j e left. here k j e (left_now j.id left);
@@ -164,7 +164,7 @@ module _ (number row : ℕ) (f : ToolFloor) (h : Sound f) (t : AreTogether f.job
         job = w.job;
         kept = w.its;
         left = left_then w.job.id w.left;
-        first = first_then x ∙ ap (first_naming number f) (sym same) ∙ w.first;
+        first = first_then x ∙ ap (first_naming number f) (sym same) ∙ w.first; goes_by = w.goes_by;
         queued = queued w.job.number w.job w.its;
         joins = subst (λ (y : Substrate). can_join w.job f.shop y ≡ true) same
             (both (is_at_source w.one.states.transport && is_needing w.one.states.processing) ((w.one.job == 0) && is_in_named_slot w.job f.shop w.one)
@@ -200,7 +200,7 @@ module _ (number row : ℕ) (f : ToolFloor) (h : Sound f) (t : AreTogether f.job
         ∙ ap (steps_named f.jobs.process) w.first
         ∙ ap (steps_found f.jobs.process) (by_its_name w.job.number f.jobs.process.kept w.job t.process.apart w.its)
 
-    pub owed_then : owed_to counted (picture (floor_fired (firing 15 number row) f)) ≡ total number f
+    pub owed_then : owed_to planned counted (picture (floor_fired (firing 15 number row) f)) ≡ total number f
     owed_then =
         begins_owed counted (picture f) h.valid begins (one_step (picture f))
         ∙ sum_same counted (λ (n : ℕ). commands_for 1) (λ (n : ℕ). commands_for (steps_of number f n)) (picture f).substrates (λ n kept is. ap commands_for (sym (takes_one n is)))

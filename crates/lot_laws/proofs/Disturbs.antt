@@ -50,7 +50,7 @@ use Rattle.floor_laws.proofs.JobSight.{none_some, some_same}
 use Rattle.floor_laws.proofs.JobLists.{job_number_is, fired_there, fired_else, fired_was, without_else, found_more}
 use Rattle.floor_laws.proofs.JobFires.{fired_jobs}
 use Rattle.floor_laws.proofs.JobEnds.{freed_alone}
-use Rattle.lot_laws.specs.Lot.{owed_to}
+use Rattle.owed_laws.specs.Owed.{owed_to}
 use Rattle.queue_laws.specs.Started.{is_left_in, AreStarted}
 use Rattle.queue_laws.specs.Steers.{is_executing, goes_on}
 use Rattle.queue_laws.proofs.Lists.{numbered_changed, gone_back}
@@ -148,11 +148,11 @@ one_more n x (y ∷ ys) s e = of (y.number == n) e (one_more n x ys s) where
   of true q later = q
   of false q later = later q
 
-module _ (number : ℕ) (counted : ℕ → Bool) (before : ToolFloor) where
+module _ (number : ℕ) (planned : ℕ → List (List ℕ)) (counted : ℕ → Bool) (before : ToolFloor) where
   -- ---- the base, and the end
 
-  pub at_base : Executes number counted before → WorksOrIsDisturbed number counted before before
-  at_base e = inl (at_work_of number counted before e, refl)
+  pub at_base : Executes number planned counted before → WorksOrIsDisturbed number counted before before
+  at_base e = inl (at_work_of number planned counted before e, refl)
 
   pub disturbed_not_calm : (f : ToolFloor) → Disturbed number counted before f → IsCalmBetween number counted before f → ⊥
   disturbed_not_calm f (ends is) calm = ending_not_executing (control_numbered number f.jobs.control.jobs) is calm.executes
@@ -165,8 +165,8 @@ module _ (number : ℕ) (counted : ℕ → Bool) (before : ToolFloor) where
       true≢false (sym ((Decides-eqb ((picture f).processing n) ((picture before).processing n)).1 (calm.works n is one)) ∙ other)
 
   pub executes_at_end : (f : ToolFloor) → WorksOrIsDisturbed number counted before f → IsCalmBetween number counted before f
-      → Executes number counted f × (owed_to counted (picture f) ≡ owed_to counted (picture before))
-  executes_at_end f (inl w) calm = (executes_of number counted f w.0 calm.executes going, w.1) where
+      → Executes number planned counted f × (owed_to planned counted (picture f) ≡ owed_to planned counted (picture before))
+  executes_at_end f (inl w) calm = (executes_of number planned counted f w.0 calm.executes going, w.1) where
     going : (n : ℕ) (j : ProcessJob) → job_numbered n f.jobs.process.kept ≡ Some j → is_left_in number j.id f.jobs ≡ true → goes_on j.states.state ≡ true
     going n j kept left =
         let was = w.0.steers.were n j kept left in

@@ -26,10 +26,9 @@ use Rattle.picture_laws.proofs.Rows.{processing_agrees}
 use Rattle.floor_laws.proofs.JobSight.{none_some, some_same}
 use Rattle.floor_laws.proofs.JobLists.{none_first}
 use Rattle.floor_laws.proofs.JobSays.{member_tells}
-use Rattle.lot_laws.specs.Lot.{owed_to}
+use Rattle.owed_laws.specs.Owed.{owed_to}
 use Rattle.owed_laws.specs.Undisturbed.{Undisturbed}
 use Rattle.owed_laws.proofs.Agreeing.{agree-undisturbed}
-use Rattle.lot_laws.proofs.Owing.{agree-owed}
 use Rattle.lot_laws.specs.Lot.{is_in_named_slot, Waits, Executes}
 use Rattle.lot_laws.proofs.Standing.{joins_tell}
 use Rattle.lot_laws.proofs.Substrates.{change-executes}
@@ -53,7 +52,7 @@ needing_before row processing.Rejected e = absurd (not_both (is_needing (after p
 needing_before row processing.Lost e = absurd (not_both (is_needing (after processing_number processing_table row processing.Lost)) (after_meets processing_number (λ (x : Processing). not (is_needing x)) (λ n. false) row processing.Lost processing_table refl refl refl) e)
 needing_before row processing.Skipped e = absurd (not_both (is_needing (after processing_number processing_table row processing.Skipped)) (after_meets processing_number (λ (x : Processing). not (is_needing x)) (λ n. false) row processing.Skipped processing_table refl refl refl) e)
 
-module _ (number : ℕ) (counted : ℕ → Bool) (f : ToolFloor) (b : Base f) (e : Executes number counted f) where
+module _ (number : ℕ) (planned : ℕ → List (List ℕ)) (counted : ℕ → Bool) (f : ToolFloor) (b : Base f) (e : Executes number planned counted f) where
   -- one that waits is in no job
   waits_free : (k : ℕ) (x : Substrate) → substrate_numbered k f.substrates ≡ Some x → Waits number x f → (picture f).jobs.is_member k ≡ true → ⊥
   waits_free k x found w is =
@@ -70,7 +69,7 @@ module _ (number : ℕ) (counted : ℕ → Bool) (f : ToolFloor) (b : Base f) (e
       agrees : Agree (worked n (state_behind row s) (picture f)) (picture (with_moved 13 row n f))
       agrees = processing_agrees f n row s at
 
-      pub worked_owed : owed_to counted (picture (with_moved 13 row n f)) ≡ owed_to counted (worked n (state_behind row s) (picture f))
+      pub worked_owed : owed_to planned counted (picture (with_moved 13 row n f)) ≡ owed_to planned counted (worked n (state_behind row s) (picture f))
       worked_owed = agree-owed (worked n (state_behind row s) (picture f)) (picture (with_moved 13 row n f)) agrees counted
 
       -- one that is done stays so, and isn't the one of the row
@@ -89,7 +88,7 @@ module _ (number : ℕ) (counted : ℕ → Bool) (f : ToolFloor) (b : Base f) (e
           (both (is_at_source x.states.transport) (is_needing x.states.processing) tells.source (needing_before row x.states.processing tells.needs))
           (both (x.job == 0) (is_in_named_slot j f.shop x) tells.free tells.named)
 
-      pub worked-executes : Executes number counted (with_moved 13 row n f)
+      pub worked-executes : Executes number planned counted (with_moved 13 row n f)
       worked-executes =
-          change-executes number counted f e n (substrate_moves 13 row) (λ x. refl) (λ x. refl) (λ x. (refl, refl)) f.modules agrees.jobs.is_member done_on (λ x found w. absurd (waits_free n x found w member)) takes
+          change-executes number planned counted f e n (substrate_moves 13 row) (λ x. refl) (λ x. refl) (λ x. (refl, refl)) f.modules agrees.jobs.is_member done_on (λ x found w. absurd (waits_free n x found w member)) takes
           (agree-undisturbed (worked n (state_behind row s) (picture f)) (picture (with_moved 13 row n f)) agrees counted valid stands_then).substrates

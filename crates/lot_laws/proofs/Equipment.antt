@@ -108,41 +108,41 @@ running_starts g n row s known running one =
 
 -- ---- Done
 
-module _ (number : ℕ) (counted : ℕ → Bool) (f : ToolFloor) (sound : Sound f) (rest : floor_least f ≡ None) (e : Executes number counted f) (m : ℕ) where
+module _ (number : ℕ) (planned : ℕ → List (List ℕ)) (counted : ℕ → Bool) (f : ToolFloor) (sound : Sound f) (rest : floor_least f ≡ None) (e : Executes number planned counted f) (m : ℕ) where
   module _ (c : ToolCommand) (fetched : Bool) (here : module_at m f.modules ≡ Some (Busy c fetched)) where
     -- the row of a task that is no Process
-    alone : (t : ToolTask) → c.task ≡ t → ((sub recipe : List ℕ) → t ≡ task.Process sub recipe → ⊥) → TakesOneOff number counted f (listed (firing 16 m (done_row t) ∷ []) f)
+    alone : (t : ToolTask) → c.task ≡ t → ((sub recipe : List ℕ) → t ≡ task.Process sub recipe → ⊥) → TakesOneOff number planned counted f (listed (firing 16 m (done_row t) ∷ []) f)
     alone t q other =
-        subst (λ (g : ToolFloor). TakesOneOff number counted f g) (sym (listed_starts (firing 16 m (done_row t)) f (done_starts m f c fetched here t q)))
-        (done_moved-falls number counted f sound e m c fetched here t q other)
+        subst (λ (g : ToolFloor). TakesOneOff number planned counted f g) (sym (listed_starts (firing 16 m (done_row t)) f (done_starts m f c fetched here t q)))
+        (done_moved-falls number planned counted f sound e m c fetched here t q other)
 
     -- the two rows of a Process
     processed : (sub recipe : List ℕ) → c.task ≡ task.Process sub recipe → (n : ℕ) → number_named sub f.places ≡ Some n → IsUnnamed n (picture (floor_fired (firing 16 m 7) f))
-        → TakesOneOff number counted f (listed (firing 16 m 7 ∷ firing 13 n (done_processing n f) ∷ []) f)
+        → TakesOneOff number planned counted f (listed (firing 16 m 7 ∷ firing 13 n (done_processing n f) ∷ []) f)
     processed sub recipe q n names unnamed =
         let p = is_processed f sound rest m c fetched here sub recipe q n names in
         let row = done_processing n f in
         let one = done_one n f in
-        let closed = closed-executes number counted f sound e m c fetched here in
+        let closed = closed-executes number planned counted f sound e m c fetched here in
         let starts = running_starts (floor_fired (firing 16 m 7) f) n row p.one p.known p.running one in
         let closes = done_starts m f c fetched here (task.Process sub recipe) q in
-        let falls = processed-falls number counted (floor_fired (firing 16 m 7) f) closed.0 n (module_row_sound f m 7 closes refl sound) unnamed row p.chamber one starts p.at p.member in
-        subst (λ (g : ToolFloor). TakesOneOff number counted f (one_listed (firing 13 n row) g)) (sym (listed_starts (firing 16 m 7) f closes))
-        (subst (λ (g : ToolFloor). TakesOneOff number counted f g) (sym (listed_starts (firing 13 n row) (floor_fired (firing 16 m 7) f) starts)) (falls.0, falls.1 ∙ closed.1))
+        let falls = processed-falls number planned counted (floor_fired (firing 16 m 7) f) closed.0 n (module_row_sound f m 7 closes refl sound) unnamed row p.chamber one starts p.at p.member in
+        subst (λ (g : ToolFloor). TakesOneOff number planned counted f (one_listed (firing 13 n row) g)) (sym (listed_starts (firing 16 m 7) f closes))
+        (subst (λ (g : ToolFloor). TakesOneOff number planned counted f g) (sym (listed_starts (firing 13 n row) (floor_fired (firing 16 m 7) f) starts)) (falls.0, falls.1 ∙ closed.1))
 
     -- by the task
-    by_task : (t : ToolTask) → c.task ≡ t → TakesOneOff number counted f (listed (at_module (done_row t) m ++ done_processed t f) f)
+    by_task : (t : ToolTask) → c.task ≡ t → TakesOneOff number planned counted f (listed (at_module (done_row t) m ++ done_processed t f) f)
     by_task (task.Pick sub from) q = alone (task.Pick sub from) q (λ s r u. cc)
     by_task (task.Place sub to) q = alone (task.Place sub to) q (λ s r u. cc)
     by_task (task.Align sub) q = alone (task.Align sub) q (λ s r u. cc)
     by_task (task.Process sub recipe) q =
         let w = process_unnamed f sound m 7 c fetched here law.idle idle_not_busy refl sub recipe q in
-        subst (λ (o : Option ℕ). TakesOneOff number counted f (listed (firing 16 m 7 ∷ at_done o f) f)) (sym w.1) (processed sub recipe q w.0 w.1 w.2)
+        subst (λ (o : Option ℕ). TakesOneOff number planned counted f (listed (firing 16 m 7 ∷ at_done o f) f)) (sym w.1) (processed sub recipe q w.0 w.1 w.2)
 
   -- Done of the open command of a module
-  pub done-falls : (command : ℕ) → is_open command (module_at m f.modules) ≡ true → TakesOneOff number counted f (listed (done_rows m f) f)
+  pub done-falls : (command : ℕ) → is_open command (module_at m f.modules) ≡ true → TakesOneOff number planned counted f (listed (done_rows m f) f)
   done-falls command open_there = of (module_at m f.modules) refl open_there where
-    of : (o : Option Module) → module_at m f.modules ≡ o → is_open command o ≡ true → TakesOneOff number counted f (listed (done_at m o f) f)
+    of : (o : Option Module) → module_at m f.modules ≡ o → is_open command o ≡ true → TakesOneOff number planned counted f (listed (done_at m o f) f)
     of None here is = absurd (cc)
     of (Some Idle) here is = absurd (cc)
     of (Some Down) here is = absurd (cc)

@@ -25,10 +25,9 @@ use Rattle.picture_laws.proofs.Issuing.{issuing_agrees}
 use Rattle.floor_laws.proofs.IssueViews.{IsSeen, IsView, holder_seen}
 use Rattle.floor_laws.proofs.IssueTargets.{IsTarget, free_target_is}
 use Rattle.floor_laws.proofs.IssuePlans.{planned_may}
-use Rattle.lot_laws.specs.Lot.{one_step, owed_to}
+use Rattle.owed_laws.specs.Owed.{owed_to}
 use Rattle.owed_laws.proofs.Columns.{issued-stays}
 use Rattle.owed_laws.proofs.Agreeing.{agree-undisturbed}
-use Rattle.lot_laws.proofs.Owing.{agree-owed}
 use Rattle.lot_laws.specs.Lot.{IsInJob, Waits, Executes}
 use Rattle.lot_laws.proofs.Standing.{on_base, undisturbed}
 
@@ -101,9 +100,9 @@ module _ (f : ToolFloor) (b : Base f) where
     of false true e = by_aligner move e
     of false false e = by_chamber m move e
 
-module _ (number : ℕ) (counted : ℕ → Bool) (f : ToolFloor) (h : Sound f) (e : Executes number counted f) where
+module _ (number : ℕ) (planned : ℕ → List (List ℕ)) (counted : ℕ → Bool) (f : ToolFloor) (h : Sound f) (e : Executes number planned counted f) where
   abbrev Keeps : ToolFloor → Type 0
-  Keeps g = Executes number counted g × (owed_to counted (picture g) ≡ owed_to counted (picture f))
+  Keeps g = Executes number planned counted g × (owed_to planned counted (picture g) ≡ owed_to planned counted (picture f))
 
   given-executes : (m : ℕ) (o : Option Move) → planned m f ≡ o → Keeps (given_to m o f)
   given-executes m None q = (e, refl)
@@ -122,11 +121,11 @@ module _ (number : ℕ) (counted : ℕ → Bool) (f : ToolFloor) (h : Sound f) (
         agree-owed (issued m (task_of move.task f.places) (picture f)) (picture (given_to m (Some move) f)) agrees counted ∙ stays.1,
       )
     where
-      by : (n : ℕ) (x : Substrate) → (is_done n (picture f) ≡ true) ⊎ (IsInJob number x f ⊎ Waits number x f) → (is_done n (picture f) ≡ true) ⊎ (IsInJob number x (given_to m (Some move) f) ⊎ Waits number x (given_to m (Some move) f))
+      by : (n : ℕ) (x : Substrate) → (is_done n (picture f) ≡ true) ⊎ (IsInJob number (planned n) x f ⊎ Waits number (planned n) x f) → (is_done n (picture f) ≡ true) ⊎ (IsInJob number (planned n) x (given_to m (Some move) f) ⊎ Waits number (planned n) x (given_to m (Some move) f))
       by n x (inl done) = inl done
       by n x (inr (inl its)) = inr (inl its)
-      by n x (inr (inr w)) = inr (inr (record { at = w.at; job = w.job; kept = w.kept; left = w.left; first = w.first; queued = w.queued; joins = w.joins }))
+      by n x (inr (inr w)) = inr (inr (record { at = w.at; job = w.job; kept = w.kept; left = w.left; first = w.first; goes_by = w.goes_by; queued = w.queued; joins = w.joins }))
 
   -- rows 1 to 4 of table 16
-  pub issue-executes : (m row : ℕ) → is_one_of (1 ∷ 2 ∷ 3 ∷ 4 ∷ []) row ≡ true → Executes number counted (floor_fired (firing 16 m row) f) × (owed_to counted (picture (floor_fired (firing 16 m row) f)) ≡ owed_to counted (picture f))
-  issue-executes m row is = subst (λ (g : ToolFloor). Executes number counted g × (owed_to counted (picture g) ≡ owed_to counted (picture f))) (sym (gives row m f is)) (given-executes m (planned m f) refl)
+  pub issue-executes : (m row : ℕ) → is_one_of (1 ∷ 2 ∷ 3 ∷ 4 ∷ []) row ≡ true → Executes number planned counted (floor_fired (firing 16 m row) f) × (owed_to planned counted (picture (floor_fired (firing 16 m row) f)) ≡ owed_to planned counted (picture f))
+  issue-executes m row is = subst (λ (g : ToolFloor). Executes number planned counted g × (owed_to planned counted (picture g) ≡ owed_to planned counted (picture f))) (sym (gives row m f is)) (given-executes m (planned m f) refl)

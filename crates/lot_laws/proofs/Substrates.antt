@@ -28,7 +28,6 @@ use Rattle.floor_laws.proofs.JobSays.{member_tells}
 use Rattle.floor_laws.proofs.JobLists.{none_first}
 use Rattle.lot_laws.specs.Lot.{is_in_named_slot, first_naming, owed_to, IsInJob, Waits, Executes}
 use Rattle.owed_laws.proofs.Agreeing.{agree-undisturbed}
-use Rattle.lot_laws.proofs.Owing.{agree-owed}
 use Rattle.lot_laws.proofs.Standing.{on_base, joins_tell, undisturbed}
 use Rattle.lot_laws.proofs.First.{first_alone}
 use Rattle.place_laws.proofs.Holding.{found_among}
@@ -54,7 +53,7 @@ found_back n change keeps k ss y e = of (k == n) refl where
     at (Some x) g = (x, g, inl (same, sym (some_same (change x) y (sym (ap (option_map change) (sym (ap (λ (i : ℕ). substrate_numbered i ss) same) ∙ g)) ∙ sym (found_there n change keeps ss) ∙ there))))
 
 -- one substrate changes, and maybe the modules
-module _ (number : ℕ) (counted : ℕ → Bool) (f : ToolFloor) (e : Executes number counted f) (n : ℕ) (change : Substrate → Substrate) (keeps : (s : Substrate) → (change s).number ≡ s.number) (jobs : (s : Substrate) → (change s).job ≡ s.job) (slots : (s : Substrate) → ((change s).carrier ≡ s.carrier) × ((change s).slot ≡ s.slot)) (ms : List ToolModule) where
+module _ (number : ℕ) (planned : ℕ → List (List ℕ)) (counted : ℕ → Bool) (f : ToolFloor) (e : Executes number planned counted f) (n : ℕ) (change : Substrate → Substrate) (keeps : (s : Substrate) → (change s).number ≡ s.number) (jobs : (s : Substrate) → (change s).job ≡ s.job) (slots : (s : Substrate) → ((change s).carrier ≡ s.carrier) × ((change s).slot ≡ s.slot)) (ms : List ToolModule) where
   abbrev changed : ToolFloor
   changed = record f { substrates = change_numbered n change f.substrates; modules = ms }
 
@@ -63,7 +62,7 @@ module _ (number : ℕ) (counted : ℕ → Bool) (f : ToolFloor) (e : Executes n
       → ((k : ℕ) → is_one_of (map number_of f.substrates) k ≡ true → is_done k (picture f) ≡ true → is_done k (picture changed) ≡ true)
       → ((x : Substrate) → substrate_numbered n f.substrates ≡ Some x → (w : Waits number x f) → can_join w.job f.shop (change x) ≡ true)
       → ((j : ProcessJob) (x : Substrate) → can_join j f.shop (change x) ≡ true → can_join j f.shop x ≡ true)
-      → SubstratesStand counted (picture changed) → Executes number counted changed
+      → SubstratesStand counted (picture changed) → Executes number planned counted changed
   change-executes members done waits takes stand = record {
     steers = e.steers;
     here = e.here;
@@ -81,9 +80,9 @@ module _ (number : ℕ) (counted : ℕ → Bool) (f : ToolFloor) (e : Executes n
     first k y x (inr c) = ap (first_naming number f) c.1
 
     on : (k : ℕ) (y x : Substrate) → Case k y x → (w : Waits number x f) → can_join w.job f.shop y ≡ true → Waits number y changed
-    on k y x c w can = record { at = w.at; job = w.job; kept = w.kept; left = w.left; first = first k y x c ∙ w.first; queued = w.queued; joins = can }
+    on k y x c w can = record { at = w.at; job = w.job; kept = w.kept; left = w.left; first = first k y x c ∙ w.first; goes_by = w.goes_by; queued = w.queued; joins = can }
 
-    by : (k : ℕ) (y x : Substrate) → substrate_numbered k f.substrates ≡ Some x → Case k y x → (is_done k (picture f) ≡ true) ⊎ (IsInJob number x f ⊎ Waits number x f) → (is_done k (picture changed) ≡ true) ⊎ (IsInJob number y changed ⊎ Waits number y changed)
+    by : (k : ℕ) (y x : Substrate) → substrate_numbered k f.substrates ≡ Some x → Case k y x → (is_done k (picture f) ≡ true) ⊎ (IsInJob number (planned k) x f ⊎ Waits number (planned k) x f) → (is_done k (picture changed) ≡ true) ⊎ (IsInJob number (planned k) y changed ⊎ Waits number (planned k) y changed)
     by k y x found c (inl is) = inl (done k (found_among number_of k f.substrates x found) is)
     by k y x found (inl c) (inr (inl its)) = inr (inl (its.0, ap (λ (i : ℕ). job_numbered i f.jobs.process.kept) (ap (λ (z : Substrate). z.job) c.1 ∙ jobs x) ∙ its.1, first k y x (inl c) ∙ its.2))
     by k y x found (inr c) (inr (inl its)) = inr (inl (its.0, ap (λ (z : Substrate). job_numbered z.job f.jobs.process.kept) c.1 ∙ its.1, first k y x (inr c) ∙ its.2))
@@ -113,7 +112,7 @@ source_stays : (row : ℕ) (t : Transport) → (row == 2) ≡ false → is_at_so
 source_stays row transport.AtSource two e = after_meets transport_number is_at_source (λ n. n == 2) row transport.AtSource transport_table two refl refl
 source_stays row _ two e = absurd (true≢false (sym e))
 
-module _ (number : ℕ) (counted : ℕ → Bool) (f : ToolFloor) (h : Sound f) (e : Executes number counted f) (n row : ℕ) where
+module _ (number : ℕ) (planned : ℕ → List (List ℕ)) (counted : ℕ → Bool) (f : ToolFloor) (h : Sound f) (e : Executes number planned counted f) (n row : ℕ) where
   -- what the table of transport changes isn't looked at by numbers
   moved_agrees : Agree (picture f) (picture (with_moved 12 row n f))
   moved_agrees = transport_agrees f n row
@@ -144,9 +143,9 @@ module _ (number : ℕ) (counted : ℕ → Bool) (f : ToolFloor) (h : Sound f) (
         other true q = absurd (not_outside n x found w (starts x found q))
 
     -- table 12
-    pub transport-executes : Executes number counted (with_moved 12 row n f) × (owed_to counted (picture (with_moved 12 row n f)) ≡ owed_to counted (picture f))
+    pub transport-executes : Executes number planned counted (with_moved 12 row n f) × (owed_to planned counted (picture (with_moved 12 row n f)) ≡ owed_to planned counted (picture f))
     transport-executes = (
-      change-executes number counted f e n (substrate_moves 12 row) (λ x. refl) (λ x. refl) (λ x. (refl, refl)) f.modules moved_agrees.jobs.is_member
+      change-executes number planned counted f e n (substrate_moves 12 row) (λ x. refl) (λ x. refl) (λ x. (refl, refl)) f.modules moved_agrees.jobs.is_member
           (λ k kept done. ap (λ (p : ℕ). law.is_finished p && not (law.is_outside ((picture f).place_of k))) (moved_agrees.processing k kept) ∙ done) waits_on takes
           (agree-undisturbed (picture f) (picture (with_moved 12 row n f)) moved_agrees counted h.valid (undisturbed number counted f (on_base f h.base) e)).substrates,
       agree-owed (picture f) (picture (with_moved 12 row n f)) moved_agrees counted,

@@ -24,7 +24,7 @@ use Rattle.floor_moves.proofs.Columns.{MayWork, worked-keeps}
 use Rattle.place_laws.specs.Picture.{picture, of_one, of_job}
 use Rattle.place_laws.specs.Sound.{Sound}
 use Rattle.floor_laws.proofs.EndOpen.{processes_busy}
-use Rattle.lot_laws.specs.Lot.{one_step, owed_to}
+use Rattle.owed_laws.specs.Owed.{owed_to}
 use Rattle.owed_laws.specs.Undisturbed.{Undisturbed}
 use Rattle.owed_laws.proofs.Columns.{worked-stays}
 use Rattle.lot_laws.specs.Lot.{Executes}
@@ -32,9 +32,9 @@ use Rattle.lot_laws.proofs.Standing.{on_base, undisturbed}
 use Rattle.lot_laws.proofs.Done.{state_behind, worked-executes, worked_owed}
 use Rattle.floor_laws.proofs.EndRows.{is_needing, may_begin}
 
-module _ (number : ℕ) (counted : ℕ → Bool) (f : ToolFloor) (sound : Sound f) (e : Executes number counted f) (n : ℕ) where
+module _ (number : ℕ) (planned : ℕ → List (List ℕ)) (counted : ℕ → Bool) (f : ToolFloor) (sound : Sound f) (e : Executes number planned counted f) (n : ℕ) where
   abbrev Keeps : ToolFloor → Type 0
-  Keeps g = Executes number counted g × (owed_to counted (picture g) ≡ owed_to counted (picture f))
+  Keeps g = Executes number planned counted g × (owed_to planned counted (picture g) ≡ owed_to planned counted (picture f))
 
   u : Undisturbed counted (picture f)
   u = undisturbed number counted f (on_base f sound.base) e
@@ -69,7 +69,7 @@ module _ (number : ℕ) (counted : ℕ → Bool) (f : ToolFloor) (sound : Sound 
         let may : MayWork n 1 (picture f) = may_begin f n sound s known needs names in
         let valid : Valid (worked n (state_behind 2 s) (picture f)) = worked-keeps (picture f) n (state_behind 2 s) (subst (λ (k : ℕ). MayWork n k (picture f)) (sym goes) may) sound.valid in
         let stays = worked-stays (one_step (picture f)) counted (picture f) u n (state_behind 2 s) (ap law.is_finished goes ∙ sym unfinished) in
-        (worked-executes number counted f sound.base e n 2 s known member unfinished valid stays.0, worked_owed number counted f sound.base e n 2 s known member unfinished valid stays.0 ∙ stays.1)
+        (worked-executes number planned counted f sound.base e n 2 s known member unfinished valid stays.0, worked_owed number planned counted f sound.base e n 2 s known member unfinished valid stays.0 ∙ stays.1)
 
     ready : (row : ℕ) → substrate_ready processing_number processing_table (λ x. x.processing) (Some s) f ≡ Some row → Keeps (floor_fired (firing 13 n row) f)
     ready row e =
@@ -93,8 +93,8 @@ module _ (number : ℕ) (counted : ℕ → Bool) (f : ToolFloor) (sound : Sound 
           ),
         ) e
 
-  pub processing-executes : (row : ℕ) → processing_machine.ready n f ≡ Some row → Executes number counted (floor_fired (firing 13 n row) f) × (owed_to counted (picture (floor_fired (firing 13 n row) f)) ≡ owed_to counted (picture f))
+  pub processing-executes : (row : ℕ) → processing_machine.ready n f ≡ Some row → Executes number planned counted (floor_fired (firing 13 n row) f) × (owed_to planned counted (picture (floor_fired (firing 13 n row) f)) ≡ owed_to planned counted (picture f))
   processing-executes row e = of (substrate_numbered n f.substrates) refl e where
-    of : (o : Option Substrate) → substrate_numbered n f.substrates ≡ o → substrate_ready processing_number processing_table (λ x. x.processing) o f ≡ Some row → Executes number counted (floor_fired (firing 13 n row) f) × (owed_to counted (picture (floor_fired (firing 13 n row) f)) ≡ owed_to counted (picture f))
+    of : (o : Option Substrate) → substrate_numbered n f.substrates ≡ o → substrate_ready processing_number processing_table (λ x. x.processing) o f ≡ Some row → Executes number planned counted (floor_fired (firing 13 n row) f) × (owed_to planned counted (picture (floor_fired (firing 13 n row) f)) ≡ owed_to planned counted (picture f))
     of None q g = absurd (cc)
     of (Some s) q g = ready s q row g

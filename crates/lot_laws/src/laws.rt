@@ -60,14 +60,14 @@ pub fn a_control_job_starts_with_its_material_in_place()
 
 /// While it executes, its substrates stand undisturbed.
 pub fn its_substrates_stand_undisturbed()
-    ensures { (number : ℕ) (counted : ℕ → Bool) (f : ToolFloor) → Sound f → Executes number counted f → Undisturbed counted (picture f) }
+    ensures { (number : ℕ) (planned : ℕ → List (List ℕ)) (counted : ℕ → Bool) (f : ToolFloor) → Sound f → Executes number planned counted f → Undisturbed counted (picture f) }
 {}
 
 /// While it executes, each counted substrate that isn't done is in the first of the process jobs that are left in it, in the order in which
 /// it named them, that names the slot, or that job is QUEUED and can take it.
 pub fn the_first_process_job_that_names_its_slot_takes_a_substrate()
-    ensures { (number : ℕ) (counted : ℕ → Bool) (f : ToolFloor) (n : ℕ) (s : Substrate) (before behind : List (List ℕ)) (j : ProcessJob)
-        → AreTogether f.jobs → Executes number counted f → substrate_numbered n f.substrates ≡ Some s → counted n ≡ true
+    ensures { (number : ℕ) (planned : ℕ → List (List ℕ)) (counted : ℕ → Bool) (f : ToolFloor) (n : ℕ) (s : Substrate) (before behind : List (List ℕ)) (j : ProcessJob)
+        → AreTogether f.jobs → Executes number planned counted f → substrate_numbered n f.substrates ≡ Some s → counted n ≡ true
         → is_done n (picture f) ≡ false → process_numbered j.number f.jobs.process.kept ≡ Some j
         → names_left (control_numbered number f.jobs.control.jobs) ≡ before ++ j.id ∷ behind → names_slot f s j.id ≡ true
         → list_any (names_slot f s) before ≡ false
@@ -76,93 +76,93 @@ pub fn the_first_process_job_that_names_its_slot_takes_a_substrate()
 
 /// It executes on behind each row of table 14 that starts and doesn't disturb it, and as much is owed.
 pub fn it_executes_on_behind_rows_of_process_jobs()
-    ensures executes { (number : ℕ) (counted : ℕ → Bool) (f : ToolFloor) (n row : ℕ) (j : ProcessJob) → Sound f → AreTogether f.jobs
-        → AreStarted f.jobs → Executes number counted f → process_numbered n f.jobs.process.kept ≡ Some j
+    ensures executes { (number : ℕ) (planned : ℕ → List (List ℕ)) (counted : ℕ → Bool) (f : ToolFloor) (n row : ℕ) (j : ProcessJob) → Sound f → AreTogether f.jobs
+        → AreStarted f.jobs → Executes number planned counted f → process_numbered n f.jobs.process.kept ≡ Some j
         → floor_starts (firing 14 n row) f ≡ true → disturbs_process number j.id row f.jobs ≡ false
-        → Executes number counted (floor_fired (firing 14 n row) f) }
-    ensures as_much { (number : ℕ) (counted : ℕ → Bool) (f : ToolFloor) (n row : ℕ) (j : ProcessJob) → Sound f → AreTogether f.jobs
-        → AreStarted f.jobs → Executes number counted f → process_numbered n f.jobs.process.kept ≡ Some j
+        → Executes number planned counted (floor_fired (firing 14 n row) f) }
+    ensures as_much { (number : ℕ) (planned : ℕ → List (List ℕ)) (counted : ℕ → Bool) (f : ToolFloor) (n row : ℕ) (j : ProcessJob) → Sound f → AreTogether f.jobs
+        → AreStarted f.jobs → Executes number planned counted f → process_numbered n f.jobs.process.kept ≡ Some j
         → floor_starts (firing 14 n row) f ≡ true → disturbs_process number j.id row f.jobs ≡ false
-        → owed_to counted (picture (floor_fired (firing 14 n row) f)) ≡ owed_to counted (picture f) }
+        → owed_to planned counted (picture (floor_fired (firing 14 n row) f)) ≡ owed_to planned counted (picture f) }
 {}
 
 /// It executes on behind each row of table 15 that starts and doesn't disturb it, but for its completion, and as much is owed.
 pub fn it_executes_on_behind_rows_of_control_jobs()
-    ensures executes { (number : ℕ) (counted : ℕ → Bool) (f : ToolFloor) (m row : ℕ) (c : ControlJob) → Sound f → AreTogether f.jobs
-        → AreStarted f.jobs → Executes number counted f → control_numbered m f.jobs.control.jobs ≡ Some c
+    ensures executes { (number : ℕ) (planned : ℕ → List (List ℕ)) (counted : ℕ → Bool) (f : ToolFloor) (m row : ℕ) (c : ControlJob) → Sound f → AreTogether f.jobs
+        → AreStarted f.jobs → Executes number planned counted f → control_numbered m f.jobs.control.jobs ≡ Some c
         → control_starts row (Some c) (is_first_here m f) f.jobs ≡ true → disturbs_control number m row ≡ false
-        → is_completion number m row ≡ false → Executes number counted (floor_fired (firing 15 m row) f) }
+        → is_completion number m row ≡ false → Executes number planned counted (floor_fired (firing 15 m row) f) }
     ensures as_much { (counted : ℕ → Bool) (f : ToolFloor) (m row : ℕ)
-        → owed_to counted (picture (floor_fired (firing 15 m row) f)) ≡ owed_to counted (picture f) }
+        → owed_to planned counted (picture (floor_fired (firing 15 m row) f)) ≡ owed_to planned counted (picture f) }
 {}
 
 /// Its completion is ready only where no Done is owed, and where none is owed some row is ready: at rest it has completed.
 pub fn it_completes_where_no_done_is_owed()
-    ensures ready { (number : ℕ) (counted : ℕ → Bool) (f : ToolFloor) (row : ℕ) (here : Bool) → Sound f → AreTogether f.jobs
-        → AreStarted f.jobs → Executes number counted f → control_ready (control_numbered number f.jobs.control.jobs) here f.jobs ≡ Some row
-        → owed_to counted (picture f) ≡ 0 }
-    ensures at_rest { (number : ℕ) (counted : ℕ → Bool) (f : ToolFloor) → Sound f → AreTogether f.jobs → AreStarted f.jobs
-        → Executes number counted f → floor_least f ≡ None → owed_to counted (picture f) ≡ 0 → ⊥ }
+    ensures ready { (number : ℕ) (planned : ℕ → List (List ℕ)) (counted : ℕ → Bool) (f : ToolFloor) (row : ℕ) (here : Bool) → Sound f → AreTogether f.jobs
+        → AreStarted f.jobs → Executes number planned counted f → control_ready (control_numbered number f.jobs.control.jobs) here f.jobs ≡ Some row
+        → owed_to planned counted (picture f) ≡ 0 }
+    ensures at_rest { (number : ℕ) (planned : ℕ → List (List ℕ)) (counted : ℕ → Bool) (f : ToolFloor) → Sound f → AreTogether f.jobs → AreStarted f.jobs
+        → Executes number planned counted f → floor_least f ≡ None → owed_to planned counted (picture f) ≡ 0 → ⊥ }
 {}
 
 /// It executes on behind the least row that is ready by itself, and as much is owed; or the row is its completion, and none is owed.
 pub fn the_least_row_leaves_as_much_owed_or_completes_it()
-    ensures { (number : ℕ) (counted : ℕ → Bool) (f : ToolFloor) (x : Firing) → Sound f → AreTogether f.jobs → AreStarted f.jobs
-        → Executes number counted f → floor_least f ≡ Some x → GoesOnOrCompletes number counted f x }
+    ensures { (number : ℕ) (planned : ℕ → List (List ℕ)) (counted : ℕ → Bool) (f : ToolFloor) (x : Firing) → Sound f → AreTogether f.jobs → AreStarted f.jobs
+        → Executes number planned counted f → floor_least f ≡ Some x → GoesOnOrCompletes number planned counted f x }
 {}
 
 /// Done of an open command takes one off: the one row of a Pick, a Place and an Align; of the two rows of a Process the first leaves
 /// as much owed, and the second, row 3 or 4 of table 13, takes one off.
 pub fn done_of_a_command_takes_one_off()
-    ensures moved { (number : ℕ) (counted : ℕ → Bool) (f : ToolFloor) (m : ℕ) (c : Command) (fetched : Bool) → Sound f
-        → Executes number counted f → module_at m f.modules ≡ Some (Busy c fetched)
+    ensures moved { (number : ℕ) (planned : ℕ → List (List ℕ)) (counted : ℕ → Bool) (f : ToolFloor) (m : ℕ) (c : Command) (fetched : Bool) → Sound f
+        → Executes number planned counted f → module_at m f.modules ≡ Some (Busy c fetched)
         → ((sub recipe : List ℕ) → c.task ≡ task.Process sub recipe → ⊥)
-        → TakesOneOff number counted f (floor_fired (firing 16 m (done_row c.task)) f) }
-    ensures closed { (number : ℕ) (counted : ℕ → Bool) (f : ToolFloor) (m : ℕ) (c : Command) (fetched : Bool) → Sound f
-        → Executes number counted f → module_at m f.modules ≡ Some (Busy c fetched)
-        → Executes number counted (floor_fired (firing 16 m 7) f) }
-    ensures closed_as_much { (number : ℕ) (counted : ℕ → Bool) (f : ToolFloor) (m : ℕ) (c : Command) (fetched : Bool) → Sound f
-        → Executes number counted f → module_at m f.modules ≡ Some (Busy c fetched)
-        → owed_to counted (picture (floor_fired (firing 16 m 7) f)) ≡ owed_to counted (picture f) }
-    ensures processed { (number : ℕ) (counted : ℕ → Bool) (f : ToolFloor) (n row d : ℕ) → Sound f → IsUnnamed n (picture f)
-        → Executes number counted f
+        → TakesOneOff number planned counted f (floor_fired (firing 16 m (done_row c.task)) f) }
+    ensures closed { (number : ℕ) (planned : ℕ → List (List ℕ)) (counted : ℕ → Bool) (f : ToolFloor) (m : ℕ) (c : Command) (fetched : Bool) → Sound f
+        → Executes number planned counted f → module_at m f.modules ≡ Some (Busy c fetched)
+        → Executes number planned counted (floor_fired (firing 16 m 7) f) }
+    ensures closed_as_much { (number : ℕ) (planned : ℕ → List (List ℕ)) (counted : ℕ → Bool) (f : ToolFloor) (m : ℕ) (c : Command) (fetched : Bool) → Sound f
+        → Executes number planned counted f → module_at m f.modules ≡ Some (Busy c fetched)
+        → owed_to planned counted (picture (floor_fired (firing 16 m 7) f)) ≡ owed_to planned counted (picture f) }
+    ensures processed { (number : ℕ) (planned : ℕ → List (List ℕ)) (counted : ℕ → Bool) (f : ToolFloor) (n row d : ℕ) → Sound f → IsUnnamed n (picture f)
+        → Executes number planned counted f
         → is_one_of (3 ∷ 4 ∷ []) row ≡ true → floor_starts (firing 13 n row) f ≡ true → (picture f).place_of n ≡ Some (chamber d)
-        → (picture f).jobs.is_member n ≡ true → TakesOneOff number counted f (floor_fired (firing 13 n row) f) }
+        → (picture f).jobs.is_member n ≡ true → TakesOneOff number planned counted f (floor_fired (firing 13 n row) f) }
 {}
 
 /// It executes on as jobs are created, as the order of the queue changes, and as the equipment fetches a command.
 pub fn it_executes_on_as_jobs_are_created()
-    ensures process { (number : ℕ) (counted : ℕ → Bool) (f : ToolFloor) (spec : JobSpec) → Sound f → AreTogether f.jobs
-        → AreStarted f.jobs → Executes number counted f → create_fault spec f.jobs.process ≡ None
-        → Executes number counted (with_jobs (with_process spec f.jobs) f) }
-    ensures control { (number : ℕ) (counted : ℕ → Bool) (f : ToolFloor) (name : List ℕ) (named : List (List ℕ)) (auto : Bool) → Sound f
-        → AreTogether f.jobs → AreStarted f.jobs → Executes number counted f → control_fault name named f.jobs ≡ None
-        → Executes number counted (with_jobs (with_control name named auto f.jobs) f) }
-    ensures head { (number : ℕ) (counted : ℕ → Bool) (f : ToolFloor) (name : List ℕ) → Sound f → AreTogether f.jobs → AreStarted f.jobs
-        → Executes number counted f → Executes number counted (with_jobs (record f.jobs { control = headed name f.jobs.control }) f) }
-    ensures fetched { (number : ℕ) (counted : ℕ → Bool) (f : ToolFloor) (m : ℕ) → Executes number counted f
-        → Executes number counted (fetched m f) }
+    ensures process { (number : ℕ) (planned : ℕ → List (List ℕ)) (counted : ℕ → Bool) (f : ToolFloor) (spec : JobSpec) → Sound f → AreTogether f.jobs
+        → AreStarted f.jobs → Executes number planned counted f → create_fault spec f.jobs.process ≡ None
+        → Executes number planned counted (with_jobs (with_process spec f.jobs) f) }
+    ensures control { (number : ℕ) (planned : ℕ → List (List ℕ)) (counted : ℕ → Bool) (f : ToolFloor) (name : List ℕ) (named : List (List ℕ)) (auto : Bool) → Sound f
+        → AreTogether f.jobs → AreStarted f.jobs → Executes number planned counted f → control_fault name named f.jobs ≡ None
+        → Executes number planned counted (with_jobs (with_control name named auto f.jobs) f) }
+    ensures head { (number : ℕ) (planned : ℕ → List (List ℕ)) (counted : ℕ → Bool) (f : ToolFloor) (name : List ℕ) → Sound f → AreTogether f.jobs → AreStarted f.jobs
+        → Executes number planned counted f → Executes number planned counted (with_jobs (record f.jobs { control = headed name f.jobs.control }) f) }
+    ensures fetched { (number : ℕ) (planned : ℕ → List (List ℕ)) (counted : ℕ → Bool) (f : ToolFloor) (m : ℕ) → Executes number planned counted f
+        → Executes number planned counted (fetched m f) }
 {}
 
 /// As an input comes it is at work and as much is owed, and so it is behind each row that a word fires, as jobs are created and as the
 /// order of the queue changes, or it is disturbed for good. Where all that the input does is calm it executes then, and as much is owed.
 pub fn an_input_leaves_it_at_work_or_disturbs_it_for_good()
-    ensures comes { (number : ℕ) (counted : ℕ → Bool) (f : ToolFloor) → Executes number counted f → WorksOrIsDisturbed number counted f f }
-    ensures word { (number : ℕ) (counted : ℕ → Bool) (before f : ToolFloor) (x : Firing) → InOrder f → is_word x ≡ true
+    ensures comes { (number : ℕ) (planned : ℕ → List (List ℕ)) (counted : ℕ → Bool) (f : ToolFloor) → Executes number planned counted f → WorksOrIsDisturbed number counted f f }
+    ensures word { (number : ℕ) (planned : ℕ → List (List ℕ)) (counted : ℕ → Bool) (before f : ToolFloor) (x : Firing) → InOrder f → is_word x ≡ true
         → floor_starts x f ≡ true → WorksOrIsDisturbed number counted before f → WorksOrIsDisturbed number counted before (floor_fired x f) }
-    ensures process { (number : ℕ) (counted : ℕ → Bool) (before f : ToolFloor) (spec : JobSpec) → InOrder f
+    ensures process { (number : ℕ) (planned : ℕ → List (List ℕ)) (counted : ℕ → Bool) (before f : ToolFloor) (spec : JobSpec) → InOrder f
         → create_fault spec f.jobs.process ≡ None → WorksOrIsDisturbed number counted before f
         → WorksOrIsDisturbed number counted before (with_jobs (with_process spec f.jobs) f) }
-    ensures control { (number : ℕ) (counted : ℕ → Bool) (before f : ToolFloor) (name : List ℕ) (named : List (List ℕ)) (auto : Bool)
+    ensures control { (number : ℕ) (planned : ℕ → List (List ℕ)) (counted : ℕ → Bool) (before f : ToolFloor) (name : List ℕ) (named : List (List ℕ)) (auto : Bool)
         → InOrder f → control_fault name named f.jobs ≡ None → WorksOrIsDisturbed number counted before f
         → WorksOrIsDisturbed number counted before (with_jobs (with_control name named auto f.jobs) f) }
-    ensures head { (number : ℕ) (counted : ℕ → Bool) (before f : ToolFloor) (name : List ℕ) → InOrder f
+    ensures head { (number : ℕ) (planned : ℕ → List (List ℕ)) (counted : ℕ → Bool) (before f : ToolFloor) (name : List ℕ) → InOrder f
         → WorksOrIsDisturbed number counted before f
         → WorksOrIsDisturbed number counted before (with_jobs (record f.jobs { control = headed name f.jobs.control }) f) }
-    ensures executes { (number : ℕ) (counted : ℕ → Bool) (before f : ToolFloor) → WorksOrIsDisturbed number counted before f
-        → IsCalmBetween number counted before f → Executes number counted f }
-    ensures as_much { (number : ℕ) (counted : ℕ → Bool) (before f : ToolFloor) → WorksOrIsDisturbed number counted before f
-        → IsCalmBetween number counted before f → owed_to counted (picture f) ≡ owed_to counted (picture before) }
+    ensures executes { (number : ℕ) (planned : ℕ → List (List ℕ)) (counted : ℕ → Bool) (before f : ToolFloor) → WorksOrIsDisturbed number counted before f
+        → IsCalmBetween number counted before f → Executes number planned counted f }
+    ensures as_much { (number : ℕ) (planned : ℕ → List (List ℕ)) (counted : ℕ → Bool) (before f : ToolFloor) → WorksOrIsDisturbed number counted before f
+        → IsCalmBetween number counted before f → owed_to planned counted (picture f) ≡ owed_to planned counted (picture before) }
 {}
 
 /// Each substrate is in no process job, or in one that is kept: so it is as the tool begins, and behind each row of a process job.

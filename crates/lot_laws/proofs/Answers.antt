@@ -38,7 +38,7 @@ use Rattle.floor_laws.proofs.EndNames.{named_place, number_there, named_kept}
 use Rattle.floor_laws.proofs.EndOpen.{command_of, busy_at}
 use Rattle.owed_laws.specs.Owed.{owed_to}
 use Rattle.owed_laws.specs.Undisturbed.{Undisturbed, SubstratesStand, OneLess}
-use Rattle.owed_laws.proofs.Agreeing.{agree-undisturbed}
+use Rattle.owed_laws.proofs.Agreeing.{agree-undisturbed, agree-owed}
 use Rattle.owed_laws.proofs.Decreasing.{done_pick-falls, done_place-falls, done_align-falls, finished-falls}
 use Rattle.lot_laws.specs.Lot.{IsInJob, Waits, Executes}
 use Rattle.lot_laws.proofs.Standing.{on_base, undisturbed}
@@ -81,7 +81,7 @@ module _ (number : ℕ) (planned : ℕ → List (List ℕ)) (counted : ℕ → B
   transfer-falls : (sub : List ℕ) (from to : LocId) → Written f sound m c fetched here sub from to → is_done (numbered sub f.places) (picture f) ≡ false → OneLess (one_step (picture f)) counted (picture f) (moved (numbered sub f.places) (loc_of to) m (picture f)) → Falls (floor_fired (firing 16 m 5) f)
   transfer-falls sub from to w left less = subst Falls (sym w.fires) (
     places-executes number planned counted f e (record f.places { held = moved_to sub to f.places.held }) (change_module m (module_behind 5) f.modules) done (agree-undisturbed _ _ w.agrees counted w.valid less.0).substrates,
-    ap (λ (k : ℕ). k + 1) (agree-owed _ _ w.agrees counted) ∙ less.1,
+    ap (λ (k : ℕ). k + 1) (agree-owed _ _ w.agrees planned counted) ∙ less.1,
   ) where
     done : (k : ℕ) → is_done k (picture f) ≡ true → is_done k (picture (behind f sound m c fetched here (record f.places { held = moved_to sub to f.places.held }))) ≡ true
     done k is = ap (λ (l : Option Loc). law.is_finished ((picture f).processing k) && not (law.is_outside l)) (w.agrees.place_of k ∙ set_else (numbered sub f.places) k (Some (loc_of to)) (picture f).place_of apart) ∙ is where
@@ -115,7 +115,7 @@ module _ (number : ℕ) (planned : ℕ → List (List ℕ)) (counted : ℕ → B
       → Falls (with_module m (module_behind 6) (record f { substrates = change_numbered n aligned f.substrates }))
   aligned-executes n s found valid less = (
     change-executes number planned counted f e n aligned (λ x. refl) (λ x. refl) (λ x. (refl, refl)) (change_module m (module_behind 6) f.modules) agrees.jobs.is_member (λ k kept is. done k ∙ is) (λ x there w. w.joins) (λ j x can. can) (agree-undisturbed _ _ agrees counted valid less.0).substrates,
-    ap (λ (k : ℕ). k + 1) (agree-owed _ _ agrees counted) ∙ less.1,
+    ap (λ (k : ℕ). k + 1) (agree-owed _ _ agrees planned counted) ∙ less.1,
   ) where
     agrees : Agree (aligned_by_numbers n m (picture f)) (picture (with_module m (module_behind 6) (record f { substrates = change_numbered n aligned f.substrates })))
     agrees = aligning_agrees m (module_behind 6) (Busy c fetched) idle f n s found here refl

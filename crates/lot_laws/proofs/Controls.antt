@@ -36,12 +36,11 @@ use Rattle.floor_moves.specs.Floor.{Loc, is_done}
 use Rattle.place_laws.specs.Picture.{picture}
 use Rattle.place_laws.specs.Sound.{Sound}
 use Rattle.place_laws.proofs.Holding.{one_found, found_among}
-use Rattle.place_laws.proofs.OneStep.{one_left}
 use Rattle.floor_laws.proofs.JobSight.{none_some, in_slot_from, removed_from}
 use Rattle.floor_laws.proofs.JobWork.{finished_same}
 use Rattle.floor_laws.proofs.JobSays.{said_there}
 use Rattle.owed_laws.specs.Owed.{owed_to}
-use Rattle.owed_laws.proofs.Beginning.{nothing_left, each_done}
+use Rattle.owed_laws.proofs.Beginning.{step_to_come, nothing_left, each_done}
 use Rattle.queue_laws.specs.Started.{is_left_in, AreStarted}
 use Rattle.queue_laws.specs.Steers.{has_none_left, goes_on, disturbs_control, is_completion}
 use Rattle.queue_laws.proofs.Rows.{active_open, executed, by_executing}
@@ -51,6 +50,7 @@ use Rattle.lot_laws.specs.Lot.{IsInJob, Waits, Executes}
 use Rattle.lot_laws.proofs.Naming.{any_numbered}
 use Rattle.lot_laws.proofs.Standing.{on_base, member_left}
 use Rattle.lot_laws.proofs.AtWork.{at_work_of}
+use Rattle.lot_laws.proofs.Planned.{are_planned}
 use Rattle.lot_laws.proofs.Steering.{row_names}
 use Rattle.lot_laws.proofs.Going.{controls-execute}
 
@@ -129,7 +129,7 @@ module _ (number : ℕ) (planned : ℕ → List (List ℕ)) (counted : ℕ → B
 
   -- where no process job is left in it, each counted one is done
   none_left_owed : has_none_left (control_numbered number f.jobs.control.jobs) ≡ true → owed_to planned counted (picture f) ≡ 0
-  none_left_owed none = nothing_left (one_step (picture f)) counted (picture f) (λ n kept is. let x = one_found number_of n f.substrates kept in by n x.0 x.1 (e.stands n x.0 x.1 is)) where
+  none_left_owed none = nothing_left planned counted (picture f) (λ n kept is. let x = one_found number_of n f.substrates kept in by n x.0 x.1 (e.stands n x.0 x.1 is)) where
     never : (job : List ℕ) → is_left_in number job f.jobs ≡ true → ⊥
     never job left = none_owned job mine.job (subst (λ (o : Option ControlJob). has_none_left o ≡ true) mine.at none) (left_owned number job f.jobs mine.job mine.at left)
 
@@ -171,7 +171,7 @@ module _ (number : ℕ) (planned : ℕ → List (List ℕ)) (counted : ℕ → B
       of true q =
           let its : job_numbered x.job f.jobs.process.kept ≡ Some j = subst (λ (i : ℕ). job_numbered i f.jobs.process.kept ≡ Some j) (sym same ∙ sym ((Decides-eqb x.job j.number).0 q)) kept in
           let is = e.members k (said_there f.substrates f.jobs k false (λ i. true) x j found its) in
-          back k x found (each_done (one_step (picture f)) counted (picture f) h.valid (λ i c at unfinished. one_left (picture f).chambers) zero k (found_among number_of k f.substrates x found) is)
+          back k x found (each_done planned counted (picture f) h.valid (step_to_come planned (picture f) h.valid (are_planned number planned counted f h.base e)) zero k (found_among number_of k f.substrates x found) is)
 
   -- the first that is left in it isn't at rest
   first_not_at_rest : owed_to planned counted (picture f) ≡ 0 → (name : List ℕ) (names : List (List ℕ)) → mine.job.left ≡ name ∷ names

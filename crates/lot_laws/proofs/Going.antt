@@ -20,7 +20,7 @@ use Rattle.floor_laws.proofs.JobSight.{none_some, some_same}
 use Rattle.floor_laws.proofs.JobChanges.{IsJobAlone, numbers_map, found_map, says_map}
 use Rattle.floor_laws.proofs.JobSays.{member_tells}
 use Rattle.owed_laws.specs.Owed.{owed_to}
-use Rattle.owed_laws.proofs.Agreeing.{agree-undisturbed}
+use Rattle.owed_laws.proofs.Agreeing.{agree-undisturbed, agree-owed}
 use Rattle.queue_laws.specs.Started.{is_left_in, AreStarted}
 use Rattle.queue_laws.specs.Steers.{Steers}
 use Rattle.lot_laws.specs.Lot.{names_slot, names_left, first_naming, IsInJob, Waits, Executes, IsAtWork, AtWork}
@@ -47,7 +47,7 @@ module _ (f : ToolFloor) (change : Substrate → Substrate) (alone : IsJobAlone 
     place_of = λ n. refl;
     processing = λ n _. processing_same n;
     is_aligned = λ n _. says_map change alone false (λ (s : Substrate). s.aligned) (λ s. ap (λ (x : Substrate). x.aligned) (alone s)) n f.substrates;
-    steps_of = λ k _ _. refl;
+    steps_of = λ n _ _. says_map change alone 0 (λ (s : Substrate). s.steps) (λ s. ap (λ (x : Substrate). x.steps) (alone s)) n f.substrates;
     carriers = refl;
     present_at = λ c. refl;
     is_verified = λ c _. refl;
@@ -78,8 +78,8 @@ module _ (f : ToolFloor) (change : Substrate → Substrate) (alone : IsJobAlone 
     of (Some x) q g = (x, q, some_same (change x) y g)
 
   -- as much is owed
-  pub behind_owed : (counted : ℕ → Bool) → owed_to planned counted (picture behind) ≡ owed_to planned counted (picture f)
-  behind_owed counted = agree-owed (picture f) (record (picture behind) { jobs = (picture f).jobs }) behind_agrees counted
+  pub behind_owed : (planned : ℕ → List (List ℕ)) (counted : ℕ → Bool) → owed_to planned counted (picture behind) ≡ owed_to planned counted (picture f)
+  behind_owed planned counted = agree-owed (picture f) (record (picture behind) { jobs = (picture f).jobs }) behind_agrees planned counted
 
   -- ---- when it stays at work
 
@@ -132,7 +132,7 @@ module _ (number : ℕ) (planned : ℕ → List (List ℕ)) (counted : ℕ → B
 
       by : (n : ℕ) (x : Substrate) → (is_done n (picture f) ≡ true) ⊎ (IsInJob number (planned n) x f ⊎ Waits number (planned n) x f) → (is_done n (picture f) ≡ true) ⊎ (IsInJob number (planned n) x (with_jobs (record f.jobs { control = c }) f) ⊎ Waits number (planned n) x (with_jobs (record f.jobs { control = c }) f))
       by n x (inl done) = inl done
-      by n x (inr (inl its)) = inr (inl (its.0, its.1, first x ∙ its.2))
+      by n x (inr (inl its)) = inr (inl (its.0, its.1, first x ∙ its.2, its.3))
       by n x (inr (inr w)) = inr (inr (record { at = w.at; job = w.job; kept = w.kept; left = same w.job.id ∙ w.left; first = first x ∙ w.first; goes_by = w.goes_by; queued = w.queued; joins = w.joins }))
 
     -- it executes on, where it steers

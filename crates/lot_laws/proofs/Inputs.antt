@@ -79,7 +79,7 @@ module _ (number : ℕ) (planned : ℕ → List (List ℕ)) (counted : ℕ → B
     } where
       by : (n : ℕ) (x : Substrate) → (is_done n (picture f) ≡ true) ⊎ (IsInJob number (planned n) x f ⊎ Waits number (planned n) x f) → (is_done n (picture f) ≡ true) ⊎ (IsInJob number (planned n) x (with_jobs (with_process spec f.jobs) f) ⊎ Waits number (planned n) x (with_jobs (with_process spec f.jobs) f))
       by n x (inl done) = inl done
-      by n x (inr (inl its)) = inr (inl (its.0, more_on x.job f.jobs.process.kept its.0 its.1, first_on x ∙ its.2))
+      by n x (inr (inl its)) = inr (inl (its.0, more_on x.job f.jobs.process.kept its.0 its.1, first_on x ∙ its.2, its.3))
       by n x (inr (inr w)) = inr (inr (record { at = w.at; job = w.job; kept = more_on w.at f.jobs.process.kept w.job w.kept; left = w.left; first = first_on x ∙ w.first; goes_by = w.goes_by; queued = w.queued; joins = w.joins }))
 
   -- ---- a control job is created, and the order of the queue changes

@@ -27,7 +27,7 @@ use Rattle.floor_laws.proofs.IssueTargets.{IsTarget, free_target_is}
 use Rattle.floor_laws.proofs.IssuePlans.{planned_may}
 use Rattle.owed_laws.specs.Owed.{owed_to}
 use Rattle.owed_laws.proofs.Columns.{issued-stays}
-use Rattle.owed_laws.proofs.Agreeing.{agree-undisturbed}
+use Rattle.owed_laws.proofs.Agreeing.{agree-undisturbed, agree-owed}
 use Rattle.lot_laws.specs.Lot.{IsInJob, Waits, Executes}
 use Rattle.lot_laws.proofs.Standing.{on_base, undisturbed}
 
@@ -108,7 +108,7 @@ module _ (number : ℕ) (planned : ℕ → List (List ℕ)) (counted : ℕ → B
   given-executes m None q = (e, refl)
   given-executes m (Some move) q =
       let agrees = issuing_agrees m move f (is_idle_module (module_at m f.modules) (move_is m (views f) f.modules move q).idle) in
-      let stays = issued-stays (one_step (picture f)) counted (picture f) (undisturbed number counted f (on_base f h.base) e) m (task_of move.task f.places) (planned_fits f h.base m move q) in
+      let stays = issued-stays planned counted (picture f) (undisturbed number counted f (on_base f h.base) e) m (task_of move.task f.places) (planned_fits f h.base m move q) in
       let valid = issued-keeps (picture f) m (task_of move.task f.places) (planned_may f h.base h.valid m move q) h.valid in (
         record {
           steers = e.steers;
@@ -118,7 +118,7 @@ module _ (number : ℕ) (planned : ℕ → List (List ℕ)) (counted : ℕ → B
           all = e.all;
           substrates = (agree-undisturbed (issued m (task_of move.task f.places) (picture f)) (picture (given_to m (Some move) f)) agrees counted valid stays.0).substrates;
         },
-        agree-owed (issued m (task_of move.task f.places) (picture f)) (picture (given_to m (Some move) f)) agrees counted ∙ stays.1,
+        agree-owed (issued m (task_of move.task f.places) (picture f)) (picture (given_to m (Some move) f)) agrees planned counted ∙ stays.1,
       )
     where
       by : (n : ℕ) (x : Substrate) → (is_done n (picture f) ≡ true) ⊎ (IsInJob number (planned n) x f ⊎ Waits number (planned n) x f) → (is_done n (picture f) ≡ true) ⊎ (IsInJob number (planned n) x (given_to m (Some move) f) ⊎ Waits number (planned n) x (given_to m (Some move) f))

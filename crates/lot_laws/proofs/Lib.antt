@@ -1,8 +1,8 @@
 pub mod AtWork
 pub mod Naming
 pub mod First
-pub mod Owing
 pub mod Standing
+pub mod Planned
 pub mod Works
 pub mod Steering
 pub mod Beginning

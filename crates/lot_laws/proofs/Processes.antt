@@ -46,6 +46,7 @@ use Rattle.queue_laws.proofs.Owners.{owner_is}
 use Rattle.queue_laws.proofs.Steering.{left_owned, process-goes, process-steers, ended-steers}
 use Rattle.lot_laws.specs.Lot.{names_left, first_naming, IsInJob, Waits, Executes, IsAtWork, AtWork}
 use Rattle.lot_laws.proofs.First.{named_on, first_alone, first_fired, first_ended, first_is}
+use Rattle.lot_laws.proofs.Planned.{route_same, first_route}
 use Rattle.lot_laws.proofs.AtWork.{going_whole, at_work_of, executes_by}
 use Rattle.lot_laws.proofs.Standing.{on_base, joins_tell, member_begun}
 use Rattle.lot_laws.proofs.Steering.{found as its_control, state-works, ended_back, ended_on, ended_names, ended-works}
@@ -105,8 +106,8 @@ module _ (number : ℕ) (planned : ℕ → List (List ℕ)) (counted : ℕ → B
     fired_member row m x i found q = let was = fired_was n row x.job f.jobs.process.kept i q in in_job_counted m x was.job found was.found
 
     -- one that waits, where it isn't for the job of the row
-    waits_else : (row : ℕ) (x : Substrate) (v : Waits number x f) → (v.at ≡ n → ⊥) → Waits number x (with_jobs (fired_jobs n row f.jobs) f)
-    waits_else row x v other = record { at = v.at; job = v.job; kept = fired_else n row v.at other f.jobs.process.kept ∙ v.kept; left = v.left; first = first_fired number f x n row ∙ v.first; goes_by = v.goes_by; queued = v.queued; joins = v.joins }
+    waits_else : (row : ℕ) (route : List (List ℕ)) (x : Substrate) (v : Waits number route x f) → (v.at ≡ n → ⊥) → Waits number route x (with_jobs (fired_jobs n row f.jobs) f)
+    waits_else row route x v other = record { at = v.at; job = v.job; kept = fired_else n row v.at other f.jobs.process.kept ∙ v.kept; left = v.left; first = first_fired number f x n row ∙ v.first; goes_by = v.goes_by; queued = v.queued; joins = v.joins }
 
     -- ---- rows 1, 4 and 6
 
@@ -115,9 +116,9 @@ module _ (number : ℕ) (planned : ℕ → List (List ℕ)) (counted : ℕ → B
         subst (λ (ss : List Substrate). AtWork number planned counted before (record f { substrates = ss; jobs = fired_jobs n row f.jobs })) (map_same f.substrates)
         (works_on f (λ (x : Substrate). x) stays_alone (fired_jobs n row f.jobs) number planned counted before h e goes)
       where
-        waits : (x : Substrate) (v : Waits number x f) → (b : Bool) → (v.at == n) ≡ b → Waits number x (with_jobs (fired_jobs n row f.jobs) f)
-        waits x v false q = waits_else row x v (apart_from v.at n q)
-        waits x v true q = record {
+        waits : (route : List (List ℕ)) (x : Substrate) (v : Waits number route x f) → (b : Bool) → (v.at == n) ≡ b → Waits number route x (with_jobs (fired_jobs n row f.jobs) f)
+        waits route x v false q = waits_else row route x v (apart_from v.at n q)
+        waits route x v true q = record {
           at = n;
           job = fires_row row v.job;
           kept = fired_there n row f.jobs.process.kept ∙ ap (option_map (fires_row row)) (subst (λ (m : ℕ). job_numbered m f.jobs.process.kept ≡ Some v.job) ((Decides-eqb v.at n).0 q) v.kept);
@@ -129,8 +130,8 @@ module _ (number : ℕ) (planned : ℕ → List (List ℕ)) (counted : ℕ → B
 
         stands : (m : ℕ) (x : Substrate) → Stands f (λ (x : Substrate). x) stays_alone (fired_jobs n row f.jobs) number planned counted before m x f → Stands f (λ (x : Substrate). x) stays_alone (fired_jobs n row f.jobs) number planned counted before m x (behind f (λ (x : Substrate). x) stays_alone (fired_jobs n row f.jobs))
         stands m x (inl done) = inl done
-        stands m x (inr (inl its)) = let on = named_on n row x.job f.jobs.process.kept its.0 its.1 in inr (inl (on.0, on.1, first_fired number f x n row ∙ its.2 ∙ ap (λ (name : List ℕ). Some name) (sym on.2)))
-        stands m x (inr (inr v)) = let u = waits x v (v.at == n) refl in inr (inr (record { at = u.at; job = u.job; kept = u.kept; left = u.left; first = u.first; goes_by = u.goes_by; queued = u.queued; joins = u.joins }))
+        stands m x (inr (inl its)) = let on = named_on n row x.job f.jobs.process.kept its.0 its.1 in inr (inl (on.0, on.1, first_fired number f x n row ∙ its.2 ∙ ap (λ (name : List ℕ). Some name) (sym on.2), route_same f.jobs.process on.0 its.0 on.3 ∙ its.3))
+        stands m x (inr (inr v)) = let u = waits (planned m) x v (v.at == n) refl in inr (inr (record { at = u.at; job = u.job; kept = u.kept; left = u.left; first = u.first; goes_by = u.goes_by; queued = u.queued; joins = u.joins }))
 
         goes : GoesOn f (λ (x : Substrate). x) stays_alone (fired_jobs n row f.jobs) number planned counted before
         goes = record {
@@ -162,23 +163,26 @@ module _ (number : ℕ) (planned : ℕ → List (List ℕ)) (counted : ℕ → B
       first_on : (x : Substrate) → first_naming number (behind f (joined j f.shop) (joined_alone f j) (fired_jobs n 2 f.jobs)) (joined j f.shop x) ≡ first_naming number f x
       first_on x = alone_on x ∙ first_fired number f x n 2
 
-      then_in : (x : Substrate) → can_join j f.shop x ≡ true → IsInJob number (joined j f.shop x) (behind f (joined j f.shop) (joined_alone f j) (fired_jobs n 2 f.jobs))
-      then_in x q = (
+      then_in : (route : List (List ℕ)) (x : Substrate) → IsInJob number route x f ⊎ Waits number route x f → can_join j f.shop x ≡ true → IsInJob number route (joined j f.shop x) (behind f (joined j f.shop) (joined_alone f j) (fired_jobs n 2 f.jobs))
+      then_in route x how q = (
         fires_row 2 j,
         ap (λ (k : ℕ). job_numbered k (change_numbered n (fires_row 2) f.jobs.process.kept)) (joined_job x q) ∙ fired_there n 2 f.jobs.process.kept ∙ ap (option_map (fires_row 2)) known,
-        first_on x ∙ first_is number f x n j t.process.apart known head (joins_tell j f x q).named,
-      )
+        first_on x ∙ first,
+        first_route number f t route x how n j known first,
+      ) where
+        first : first_naming number f x ≡ Some j.id
+        first = first_is number f x n j t.process.apart known head (joins_tell j f x q).named
 
       stands : (m : ℕ) (x : Substrate) → substrate_numbered m f.substrates ≡ Some x → Stands f (joined j f.shop) (joined_alone f j) (fired_jobs n 2 f.jobs) number planned counted before m x f → (b : Bool) → can_join j f.shop x ≡ b
           → Stands f (joined j f.shop) (joined_alone f j) (fired_jobs n 2 f.jobs) number planned counted before m (joined j f.shop x) (behind f (joined j f.shop) (joined_alone f j) (fired_jobs n 2 f.jobs))
       stands m x found (inl done) b q = inl done
-      stands m x found (inr how) true q = inr (inl (then_in x q))
+      stands m x found (inr how) true q = inr (inl (then_in (planned m) x how q))
       stands m x found (inr (inl its)) false q =
           let on = named_on n 2 x.job f.jobs.process.kept its.0 its.1 in
-          inr (inl (on.0, ap (λ (y : Substrate). job_of y (fired_jobs n 2 f.jobs)) (joined_same x q) ∙ on.1, first_on x ∙ its.2 ∙ ap (λ (name : List ℕ). Some name) (sym on.2)))
+          inr (inl (on.0, ap (λ (y : Substrate). job_of y (fired_jobs n 2 f.jobs)) (joined_same x q) ∙ on.1, first_on x ∙ its.2 ∙ ap (λ (name : List ℕ). Some name) (sym on.2), route_same f.jobs.process on.0 its.0 on.3 ∙ its.3))
       stands m x found (inr (inr v)) false q =
           let other : v.at ≡ n → ⊥ = λ same. true≢false (sym v.joins ∙ ap (λ (i : ProcessJob). can_join i f.shop x) (that v.at v.job v.kept same) ∙ q) in
-          let u = waits_else 2 x v other in
+          let u = waits_else 2 (planned m) x v other in
           inr (inr (record { at = u.at; job = u.job; kept = u.kept; left = u.left; first = alone_on x ∙ u.first; goes_by = u.goes_by; queued = u.queued; joins = ap (can_join u.job f.shop) (joined_same x q) ∙ u.joins }))
 
       members : (m : ℕ) (x : Substrate) (i : ProcessJob) → substrate_numbered m f.substrates ≡ Some x → job_of (joined j f.shop x) (fired_jobs n 2 f.jobs) ≡ Some i → (b : Bool) → can_join j f.shop x ≡ b → counted m ≡ true
@@ -246,6 +250,7 @@ module _ (number : ℕ) (planned : ℕ → List (List ℕ)) (counted : ℕ → B
             its.0,
             ap (λ (y : Substrate). job_numbered y.job (without_numbered n f.jobs.process.kept)) (freed_same x q) ∙ without_else n x.job (apart_from x.job n q) f.jobs.process.kept ∙ its.1,
             first_on x x.job its.0 its.1 (apart_from x.job n q) its.2,
+            its.3,
           ))
         stands m x found (inr (inr v)) =
             let other : v.at ≡ n → ⊥ = λ same. let one = that v.at v.job v.kept same in apart (subst (λ (i : ProcessJob). is_queued i.states.state ≡ true) one v.queued) (subst (λ (i : ProcessJob). is_left_in number i.id f.jobs ≡ true) one v.left) in
@@ -386,10 +391,10 @@ module _ (number : ℕ) (planned : ℕ → List (List ℕ)) (counted : ℕ → B
         joins : is_left_in number j.id f.jobs ≡ true → Starts 2 → Calm 2 → Keeps 2
         joins left st c =
             subst (λ (g : ToolFloor). Executes number planned counted g × (owed_to planned counted (picture g) ≡ owed_to planned counted (picture f))) (sym (two_is f n j known))
-            (joined-executes left (first_left left st) (steers 2 st c), behind_owed f (joined j f.shop) (joined_alone f j) (fired_jobs n 2 f.jobs) counted)
+            (joined-executes left (first_left left st) (steers 2 st c), behind_owed f (joined j f.shop) (joined_alone f j) (fired_jobs n 2 f.jobs) planned counted)
 
         owed_ended : owed_to planned counted (picture (with_jobs (ended n f.jobs) (without_members j.number f))) ≡ owed_to planned counted (picture f)
-        owed_ended = behind_owed f (freed j.number) (freed_alone j.number) (ended n f.jobs) counted
+        owed_ended = behind_owed f (freed j.number) (freed_alone j.number) (ended n f.jobs) planned counted
 
         ends : is_left_in number j.id f.jobs ≡ true → Starts 7 → Calm 7 → Keeps 7
         ends left st c =

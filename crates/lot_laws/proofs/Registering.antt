@@ -55,7 +55,7 @@ use Rattle.floor_laws.proofs.ShopAccess.{map_access}
 use Rattle.owed_laws.specs.Owed.{owed_to}
 use Rattle.owed_laws.specs.Undisturbed.{Undisturbed}
 use Rattle.owed_laws.proofs.Carrying.{registered-stays}
-use Rattle.owed_laws.proofs.Agreeing.{agree-undisturbed}
+use Rattle.owed_laws.proofs.Agreeing.{agree-undisturbed, agree-owed}
 use Rattle.queue_laws.specs.Started.{is_left_in}
 use Rattle.lot_laws.specs.Lot.{IsInJob, Waits, Executes, AtWork}
 use Rattle.lot_laws.proofs.Naming.{slot_names_carrier}
@@ -128,10 +128,10 @@ module _ (number : ℕ) (planned : ℕ → List (List ℕ)) (counted : ℕ → B
         all = λ k i y j there kept left can. takes k i y j kept left can (found_either k f.substrates new y there);
         substrates = (agree-undisturbed (registered_by_numbers c.number port.0 slot.0 (picture (with_shop s f))) (picture (with_shop s behind)) agrees counted (registered-keeps (picture (with_shop s f)) fill.by_numbers c.number port.0 slot.0 (may s valid c d port found present is_read at named slot f first last fill)) stays.0).substrates;
       },
-      agree-owed (registered_by_numbers c.number port.0 slot.0 (picture (with_shop s f))) (picture (with_shop s behind)) agrees counted ∙ stays.1,
+      agree-owed (registered_by_numbers c.number port.0 slot.0 (picture (with_shop s f))) (picture (with_shop s behind)) agrees planned counted ∙ stays.1,
     ) where
       stays : Undisturbed counted (registered_by_numbers c.number port.0 slot.0 (picture (with_shop s f))) × (owed_to planned counted (registered_by_numbers c.number port.0 slot.0 (picture (with_shop s f))) ≡ owed_to planned counted (picture (with_shop s f)))
-      stays = registered-stays (one_step (picture (with_shop s f))) counted (picture (with_shop s f)) fill.by_numbers u c.number port.0 slot.0
+      stays = registered-stays planned counted (picture (with_shop s f)) fill.by_numbers u c.number port.0 slot.0
 
       on : (k : ℕ) (y : Substrate) → substrate_numbered k f.substrates ≡ Some y → substrate_numbered k (f.substrates ++ new ∷ []) ≡ Some y → counted k ≡ true → (is_done k (picture (with_shop s f)) ≡ true) ⊎ (IsInJob number (planned k) y (with_shop s f) ⊎ Waits number (planned k) y (with_shop s f))
           → (is_done k (picture (with_shop s behind)) ≡ true) ⊎ (IsInJob number (planned k) y (with_shop s behind) ⊎ Waits number (planned k) y (with_shop s behind))

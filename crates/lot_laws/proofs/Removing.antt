@@ -48,7 +48,7 @@ use Rattle.floor_laws.proofs.RemSound.{OwnerEnded, Kept, vacated_kept}
 use Rattle.floor_laws.proofs.ShopAccess.{SameAccess, access_same}
 use Rattle.owed_laws.specs.Owed.{owed_to}
 use Rattle.owed_laws.specs.Undisturbed.{Undisturbed}
-use Rattle.owed_laws.proofs.Agreeing.{agree-undisturbed}
+use Rattle.owed_laws.proofs.Agreeing.{agree-undisturbed, agree-owed}
 use Rattle.owed_laws.proofs.Carrying.{forgotten-stays}
 use Rattle.lot_laws.specs.Lot.{is_in_named_slot, first_naming, IsInJob, Waits, AtWork}
 use Rattle.lot_laws.proofs.First.{any_alike, first_shop}
@@ -162,7 +162,7 @@ module _ (number : ℕ) (planned : ℕ → List (List ℕ)) (counted : ℕ → B
       of false q = q
 
   stays : Undisturbed counted (forgotten c.number (picture f)) × (owed_to planned counted (forgotten c.number (picture f)) ≡ owed_to planned counted (picture f))
-  stays = forgotten-stays (one_step (picture f)) counted (picture f) kept.valid (work-undisturbed number counted f (on_base f kept.base) e) c.number ends
+  stays = forgotten-stays planned counted (picture f) kept.valid (work-undisturbed number counted f (on_base f kept.base) e) c.number ends
 
   pub taken-works : WorksOn number planned counted before f (with_shop (floor_of ps (without name f.shop.carriers) next) (without_carrier (Some c.number) f))
   taken-works = (
@@ -175,11 +175,11 @@ module _ (number : ℕ) (planned : ℕ → List (List ℕ)) (counted : ℕ → B
       substrates = (agree-undisturbed (forgotten c.number (picture f)) (picture taken) agrees counted (forgotten-keeps (picture f) kept.valid c.number ends) stays.0).substrates;
     },
     refl,
-    agree-owed (forgotten c.number (picture f)) (picture taken) agrees counted ∙ stays.1,
+    agree-owed (forgotten c.number (picture f)) (picture taken) agrees planned counted ∙ stays.1,
   ) where
     stands : (n : ℕ) (x : Substrate) → substrate_numbered n taken.substrates ≡ Some x → not (is_of c.number x) ≡ true → (is_done_by_numbers n (picture f) ≡ true) ⊎ (IsInJob number (planned n) x f ⊎ Waits number (planned n) x f) → (is_done_by_numbers n (picture taken) ≡ true) ⊎ (IsInJob number (planned n) x taken ⊎ Waits number (planned n) x taken)
     stands n x there away (inl done) = inl (done_on n x there done)
-    stands n x there away (inr (inl its)) = inr (inl (its.0, its.1, first_same x away ∙ its.2))
+    stands n x there away (inr (inl its)) = inr (inl (its.0, its.1, first_same x away ∙ its.2, its.3))
     stands n x there away (inr (inr w)) = inr (inr (record { at = w.at; job = w.job; kept = w.kept; left = w.left; first = first_same x away ∙ w.first; goes_by = w.goes_by; queued = w.queued; joins = join_same x away w.job ∙ w.joins }))
 
 -- ---- row 6 of table 7

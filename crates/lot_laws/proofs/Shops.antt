@@ -163,7 +163,7 @@ module _ (number : ℕ) (planned : ℕ → List (List ℕ)) (counted : ℕ → B
   } where
     by : (n : ℕ) (x : Substrate) → substrate_numbered n f.substrates ≡ Some x → (is_done n (picture f) ≡ true) ⊎ (IsInJob number (planned n) x f ⊎ Waits number (planned n) x f) → (is_done n (picture (with_shop s f)) ≡ true) ⊎ (IsInJob number (planned n) x (with_shop s f) ⊎ Waits number (planned n) x (with_shop s f))
     by n x found (inl done) = inl done
-    by n x found (inr (inl its)) = inr (inl (its.0, its.1, first_same n x found ∙ its.2))
+    by n x found (inr (inl its)) = inr (inl (its.0, its.1, first_same n x found ∙ its.2, its.3))
     by n x found (inr (inr w)) = inr (inr (record { at = w.at; job = w.job; kept = w.kept; left = w.left; first = first_same n x found ∙ w.first; goes_by = w.goes_by; queued = w.queued; joins = join_same n x found w.job ∙ w.joins }))
 
     in_access : (n : ℕ) → is_one_of (picture f).substrates n ≡ true → (picture f).jobs.names_carrier ((picture f).carrier_of n) ≡ true → (picture f).access ((picture f).carrier_of n) ≤ 1 → (picture (with_shop s f)).access ((picture f).carrier_of n) ≤ 1

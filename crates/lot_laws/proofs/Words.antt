@@ -178,7 +178,7 @@ module _ (number : ℕ) (planned : ℕ → List (List ℕ)) (counted : ℕ → B
         cancelled st =
             subst Goes (sym (fifteen_is f n j known)) (inl (
               ended-work number planned counted f h t s e n j known (queued_done f n j known h queued) (λ q l. true≢false (sym l ∙ out)),
-              behind_owed f (freed j.number) (freed_alone j.number) (ended n f.jobs) counted ∙ owed,
+              behind_owed f (freed j.number) (freed_alone j.number) (ended n f.jobs) planned counted ∙ owed,
             ))
 
     -- where it is disturbed

@@ -172,7 +172,8 @@ module _ (number row : ℕ) (f : ToolFloor) (h : Sound f) (t : AreTogether f.job
         job = w.job;
         kept = w.its;
         left = left_then w.job.id w.left;
-        first = first_then x ∙ ap (first_naming number f) (sym same) ∙ w.first; goes_by = w.goes_by;
+        first = first_then x ∙ ap (first_naming number f) (sym same) ∙ w.first;
+        goes_by = sym (plans n w);
         queued = queued w.job.number w.job w.its;
         joins = subst (λ (y : Substrate). can_join w.job f.shop y ≡ true) same
             (both (is_at_source w.one.states.transport && is_needing w.one.states.processing) ((w.one.job == 0) && is_in_named_slot w.job f.shop w.one)

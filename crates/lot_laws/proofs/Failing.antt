@@ -27,7 +27,7 @@ use Rattle.floor_model.specs.Modules.{module_behind, in_state, found_move, move_
 use Rattle.floor_model.specs.Naming.{module_names}
 use Rattle.floor_model.specs.Signals.{at_module, at_processed, processed_rows, closing_at, closing_rows, can_be_lost, lost_at, lost_rows}
 use Rattle.floor_model.specs.Substrates.{is_in_slot}
-use Rattle.floor_model.specs.Views.{planned}
+use Rattle.floor_model.specs.Views.{planned as plan_of}
 use Rattle.floor_model.specs.Machines.{substrate_starts, substrate_moves, floor_starts, floor_fired, floor_least}
 use Rattle.floor_moves.specs.Floor as law
 use Rattle.floor_moves.specs.Floor.{Loc, Command, busy, is_outside}
@@ -42,7 +42,8 @@ use Rattle.floor_laws.proofs.JobSight.{in_slot_from}
 use Rattle.lot_laws.specs.Lot.{Executes, AtWork, Disturbed, spoils, WorksOrIsDisturbed}
 use Rattle.lot_laws.proofs.AtWork.{at_work_of}
 use Rattle.lot_laws.proofs.Works.{WorksOn, modules-work}
-use Rattle.lot_laws.proofs.Equipment.{IsProcessed, is_processed, running_starts}
+use Rattle.floor_laws.proofs.EndRunning.{IsRunning, running_there}
+use Rattle.lot_laws.proofs.Equipment.{running_starts}
 
 -- ---- a module turns
 
@@ -68,18 +69,18 @@ module _ (m row : ℕ) (f : ToolFloor) where
         ∙ subst (λ (i : ℕ). module_of (module_at i (change_module m (module_behind row) f.modules)) f.places ≡ busy c) (sym same) e))
     of false q = sym (ap (λ (o : Option ToolModule). module_of o f.places) (changed_else m k (λ same. true≢false (sym ((Decides-eqb k m).1 same) ∙ q)) (module_behind row) f.modules)) ∙ e
 
-  -- rows 7 to 10 do no more
-  pub turns : is_one_of (7 ∷ 8 ∷ 9 ∷ 10 ∷ []) row ≡ true → floor_fired (firing 16 m row) f ≡ with_module m (module_behind row) f
+  -- rows 8 to 10 do no more
+  pub turns : is_one_of (8 ∷ 9 ∷ 10 ∷ []) row ≡ true → floor_fired (firing 16 m row) f ≡ with_module m (module_behind row) f
   turns one = ap (λ (g : ToolFloor). with_module m (module_behind row) g) (of (row_of move_table row) refl) where
-    of : (r : Option MoveRow) → row_of move_table row ≡ r → found_move r m (planned m f) f ≡ f
+    of : (r : Option MoveRow) → row_of move_table row ≡ r → found_move r m (plan_of m f) f ≡ f
     of None is = refl
     of (Some r) is =
-        let here = found_row (λ (x : MoveRow). is_one_of (7 ∷ 8 ∷ 9 ∷ 10 ∷ []) x.number ≡ true → move_does x.does m (planned m f) f ≡ f) move_table row r
-        ((λ k. absurd (true≢false (sym k))), ((λ k. absurd (true≢false (sym k))), ((λ k. absurd (true≢false (sym k))), ((λ k. absurd (true≢false (sym k))), ((λ k. absurd (true≢false (sym k))), ((λ k. absurd (true≢false (sym k))), ((λ k. refl), ((λ k. refl), ((λ k. refl), ((λ k. refl), tt)))))))))) is in
-        here.0 (ap (is_one_of (7 ∷ 8 ∷ 9 ∷ 10 ∷ [])) here.1 ∙ one)
+        let here = found_row (λ (x : MoveRow). is_one_of (8 ∷ 9 ∷ 10 ∷ []) x.number ≡ true → move_does x.does m (plan_of m f) f ≡ f) move_table row r
+        ((λ k. absurd (true≢false (sym k))), ((λ k. absurd (true≢false (sym k))), ((λ k. absurd (true≢false (sym k))), ((λ k. absurd (true≢false (sym k))), ((λ k. absurd (true≢false (sym k))), ((λ k. absurd (true≢false (sym k))), ((λ k. absurd (true≢false (sym k))), ((λ k. refl), ((λ k. refl), ((λ k. refl), tt)))))))))) is in
+        here.0 (ap (is_one_of (8 ∷ 9 ∷ 10 ∷ [])) here.1 ∙ one)
 
--- behind rows 7 to 10 of table 16, and where a command is fetched, its substrates stand as they do
-pub turned-works : (number : ℕ) (planned : ℕ → List (List ℕ)) (counted : ℕ → Bool) {before : Jobs} (f : ToolFloor) → AtWork number planned counted before f → (m row : ℕ) → is_one_of (7 ∷ 8 ∷ 9 ∷ 10 ∷ []) row ≡ true → WorksOn number planned counted before f (floor_fired (firing 16 m row) f)
+-- behind rows 8 to 10 of table 16, and where a command is fetched, its substrates stand as they do
+pub turned-works : (number : ℕ) (planned : ℕ → List (List ℕ)) (counted : ℕ → Bool) {before : Jobs} (f : ToolFloor) → AtWork number planned counted before f → (m row : ℕ) → is_one_of (8 ∷ 9 ∷ 10 ∷ []) row ≡ true → WorksOn number planned counted before f (floor_fired (firing 16 m row) f)
 turned-works number planned counted {before = before} f e m row one =
     subst (λ (g : ToolFloor). WorksOn number planned counted before f g) (sym (turns m row f one)) (modules-work number planned counted f e (change_module m (module_behind row) f.modules) (λ k c is. busy_back m row f k c is))
 
@@ -109,17 +110,17 @@ WorksOnOrEnds number planned counted before f g = WorksOn number planned counted
 
 module _ (number : ℕ) (planned : ℕ → List (List ℕ)) (counted : ℕ → Bool) (f : ToolFloor) (sound : Sound f) {before : Jobs} (e : AtWork number planned counted before f) where
   -- a row of a module that fires alone
-  turned_listed : (m row : ℕ) → is_one_of (7 ∷ 8 ∷ 9 ∷ 10 ∷ []) row ≡ true → WorksOnOrEnds number planned counted before f (listed (firing 16 m row ∷ []) f)
+  turned_listed : (m row : ℕ) → is_one_of (8 ∷ 9 ∷ 10 ∷ []) row ≡ true → WorksOnOrEnds number planned counted before f (listed (firing 16 m row ∷ []) f)
   turned_listed m row one = listed_either (λ (g : ToolFloor). WorksOnOrEnds number planned counted before f g) (firing 16 m row) f (λ starts. inl (turned-works number planned counted f e m row one)) (λ left. inl (e, refl, refl))
 
   -- ---- Failed and Down
 
-  module _ (rest : floor_least f ≡ None) (m row : ℕ) (one : is_one_of (7 ∷ 8 ∷ 9 ∷ 10 ∷ []) row ≡ true) where
+  module _ (rest : floor_least f ≡ None) (m row : ℕ) (one : is_one_of (8 ∷ 9 ∷ 10 ∷ []) row ≡ true) where
     substrates_same : (floor_fired (firing 16 m row) f).substrates ≡ f.substrates
     substrates_same = ap (λ (g : ToolFloor). g.substrates) (turns m row f one)
 
     -- what a Process that was open names is ABORTED
-    aborted : (n : ℕ) → IsProcessed f n → Disturbed number counted f (floor_fired (firing 13 n 4) (floor_fired (firing 16 m row) f))
+    aborted : (n : ℕ) → IsRunning f n → Disturbed number counted f (floor_fired (firing 13 n 4) (floor_fired (firing 16 m row) f))
     aborted n p =
         spoils n (e.members n p.member) (ap (is_one_of (3 ∷ 4 ∷ 6 ∷ 7 ∷ [])) then_is)
         (ap (λ (k : ℕ). k == (picture f).processing n) then_is ∙ ap (λ (k : ℕ). 3 == k) was)
@@ -137,7 +138,7 @@ module _ (number : ℕ) (planned : ℕ → List (List ℕ)) (counted : ℕ → B
       processed : (sub recipe : List ℕ) → c.task ≡ task.Process sub recipe → (o : Option ℕ) → number_named sub f.places ≡ o → WorksOnOrEnds number planned counted before f (listed (firing 16 m row ∷ at_processed 4 o) f)
       processed sub recipe q None names = turned_listed m row one
       processed sub recipe q (Some n) names =
-          let p = is_processed f sound rest m c fetched here sub recipe q n names in
+          let p = running_there f sound rest m c fetched here sub recipe q n names in
           let then_starts = running_starts (floor_fired (firing 16 m row) f) n 4 p.one (ap (substrate_numbered n) substrates_same ∙ p.known) p.running refl in
           subst (λ (g : ToolFloor). WorksOnOrEnds number planned counted before f (one_listed (firing 13 n 4) g)) (sym (listed_starts (firing 16 m row) f starts))
           (subst (λ (g : ToolFloor). WorksOnOrEnds number planned counted before f g) (sym (listed_starts (firing 13 n 4) (floor_fired (firing 16 m row) f) then_starts)) (inr (aborted n p)))

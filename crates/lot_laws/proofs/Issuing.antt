@@ -11,7 +11,7 @@ use Rattle.robot_moves.specs.declared.view.Move.{Move}
 use Rattle.robot_moves.proofs.Giving.{move_is}
 use Rattle.floor_model.specs.declared.tracked.Substrate.{Substrate}
 use Rattle.floor_model.specs.Floor.{ToolFloor}
-use Rattle.floor_model.specs.Views.{views, planned}
+use Rattle.floor_model.specs.Views.{views, planned as plan_of}
 use Rattle.floor_model.specs.Modules.{issued as given_to}
 use Rattle.floor_model.specs.Machines.{floor_fired}
 use Rattle.floor_model.proofs.Moves.{is_idle_module, gives}
@@ -89,11 +89,11 @@ module _ (f : ToolFloor) (b : Base f) where
     of : (o : Option PlaceView) → process_move k o ≡ Some move → Fits move
     of None e = absurd (cc)
     of (Some w) e =
-        let wanted : Some (move_by k 4 (task.Process w.sub w.recipe)) ≡ Some move = where_so (not w.finished && not w.in_process) (Some (move_by k 4 (task.Process w.sub w.recipe))) move e in
+        let wanted : Some (move_by k 4 (task.Process w.sub w.recipe)) ≡ Some move = where_so (not w.finished && is_next w (k - 2)) (Some (move_by k 4 (task.Process w.sub w.recipe))) move e in
         let same : move_by k 4 (task.Process w.sub w.recipe) ≡ move = cc in
         subst (λ (x : Move). Fits x) same (λ n c t. absurd (cc))
 
-  pub planned_fits : (m : ℕ) (move : Move) → planned m f ≡ Some move → (n c : ℕ) → task_of move.task f.places ≡ law.place n (law.chamber c) → law.is_finished ((picture f).processing n) ≡ false
+  pub planned_fits : (m : ℕ) (move : Move) → plan_of m f ≡ Some move → (n c : ℕ) → task_of move.task f.places ≡ law.place n (law.chamber c) → law.is_finished ((picture f).processing n) ≡ false
   planned_fits m move e = of (m == 1) (m == 2) e where
     of : (first second : Bool) → (if first then robot_move (views f) f.modules else (if second then aligner_move (views f) f.modules else chamber_move m (views f) f.modules)) ≡ Some move → Fits move
     of true second e = by_robot move e
@@ -104,7 +104,7 @@ module _ (number : ℕ) (planned : ℕ → List (List ℕ)) (counted : ℕ → B
   abbrev Keeps : ToolFloor → Type 0
   Keeps g = Executes number planned counted g × (owed_to planned counted (picture g) ≡ owed_to planned counted (picture f))
 
-  given-executes : (m : ℕ) (o : Option Move) → planned m f ≡ o → Keeps (given_to m o f)
+  given-executes : (m : ℕ) (o : Option Move) → plan_of m f ≡ o → Keeps (given_to m o f)
   given-executes m None q = (e, refl)
   given-executes m (Some move) q =
       let agrees = issuing_agrees m move f (is_idle_module (module_at m f.modules) (move_is m (views f) f.modules move q).idle) in
@@ -128,4 +128,4 @@ module _ (number : ℕ) (planned : ℕ → List (List ℕ)) (counted : ℕ → B
 
   -- rows 1 to 4 of table 16
   pub issue-executes : (m row : ℕ) → is_one_of (1 ∷ 2 ∷ 3 ∷ 4 ∷ []) row ≡ true → Executes number planned counted (floor_fired (firing 16 m row) f) × (owed_to planned counted (picture (floor_fired (firing 16 m row) f)) ≡ owed_to planned counted (picture f))
-  issue-executes m row is = subst (λ (g : ToolFloor). Executes number planned counted g × (owed_to planned counted (picture g) ≡ owed_to planned counted (picture f))) (sym (gives row m f is)) (given-executes m (planned m f) refl)
+  issue-executes m row is = subst (λ (g : ToolFloor). Executes number planned counted g × (owed_to planned counted (picture g) ≡ owed_to planned counted (picture f))) (sym (gives row m f is)) (given-executes m (plan_of m f) refl)

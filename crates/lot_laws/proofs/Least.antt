@@ -26,7 +26,7 @@ use Rattle.tool_jobs.proofs.Falls.{process_ready_starts}
 use Rattle.floor_model.specs.declared.tracked.Substrate.{Substrate}
 use Rattle.floor_model.specs.Floor.{ToolFloor, substrate_numbered}
 use Rattle.floor_model.specs.Jobs.{sight, found_sight, is_first_here}
-use Rattle.floor_model.specs.Views.{planned}
+use Rattle.floor_model.specs.Views.{planned as plan_of}
 use Rattle.floor_model.specs.Modules.{move_wants, move_ready}
 use Rattle.floor_model.specs.Substrates.{is_outside, reaches_verified}
 use Rattle.floor_model.specs.Wants.{accessing_wants, substrate_wants}
@@ -124,7 +124,7 @@ module _ (number : ℕ) (planned : ℕ → List (List ℕ)) (counted : ℕ → B
         processing = λ o r s. inr (inr (inl (processing-executes number planned counted f h e o r s)));
         process_job = λ o r s. process o r s;
         control_job = λ o r s. control o r s;
-        move = λ o r s. inr (inr (inl (issue-executes number planned counted f h e o r (commands o r (planned o f) (module_at o f.modules) s))));
+        move = λ o r s. inr (inr (inl (issue-executes number planned counted f h e o r (commands o r (plan_of o f) (module_at o f.modules) s))));
       }) q
 
   -- a row that registers substrates

@@ -1,5 +1,5 @@
 -- While a control job is at work, what its process jobs say of substrates stands as it does undisturbed.
-use Rattle.std.proofs.Common.{◌≡◌, ℕ, ◌==◌, Bool, true, false, not, ◌&&◌, ◌||◌, List, Some, refl, sym, ◌∙◌, ap, ◌⊎◌, inl, inr}
+use Rattle.std.proofs.Common.{◌≡◌, ℕ, ◌==◌, Bool, true, false, not, ◌&&◌, ◌||◌, List, Option, Some, None, refl, sym, ◌∙◌, ap, ◌⊎◌, inl, inr}
 use Rattle.std.specs.List.{AllByRecursion}
 use Rattle.std.proofs.lemmas.Bool.{true≢false, and_parts, or_parts}
 use Rattle.carrier.specs.declared.carrier.Carrier.{Carrier}
@@ -14,10 +14,10 @@ use Rattle.tool_jobs.specs.Jobs.{Jobs}
 use Rattle.tool_jobs.specs.Together.{AreTogether}
 use Rattle.floor_model.specs.declared.tracked.Substrate.{Substrate}
 use Rattle.floor_model.specs.Floor.{ToolFloor, substrate_numbered, number_of}
-use Rattle.floor_model.specs.Jobs.{job_of, names_carrier, is_any_of_carrier, is_stopping, is_aborting, can_join}
+use Rattle.floor_model.specs.Jobs.{job_of, is_job_so, names_carrier, is_any_of_carrier, is_stopping, is_aborting, can_join}
 use Rattle.floor_moves.specs.Floor as law
 use Rattle.floor_moves.specs.Floor.{is_done}
-use Rattle.place_laws.specs.Picture.{picture, of_one}
+use Rattle.place_laws.specs.Picture.{picture, of_one, of_job}
 use Rattle.place_laws.specs.Standing.{IsCarried}
 use Rattle.place_laws.specs.Sound as sound
 use Rattle.place_laws.specs.Sound.{IsOfJob, IsInItsJob, Base}
@@ -97,6 +97,14 @@ module _ (f : ToolFloor) (h : IsCarriedOn f) where
       ap (picture f).jobs.names_carrier which
       ∙ ap (of_one false (λ (x : Carrier). is_any_of_carrier x.name f.jobs)) its
       ∙ any_found _ (names_carrier c.name) f.jobs.process.kept j kept named
+
+-- what the job of a substrate says, by numbers
+pub job_said : (f : ToolFloor) (n : ℕ) (s : Substrate) → substrate_numbered n f.substrates ≡ Some s → (says : JobState → Bool)
+    → is_job_so says (job_of s f.jobs) ≡ of_one false (of_job false (λ (j : ProcessJob). says j.states.state) f.jobs) (substrate_numbered n f.substrates)
+job_said f n s known says = of (job_of s f.jobs) ∙ sym (ap (of_one false (of_job false (λ (j : ProcessJob). says j.states.state) f.jobs)) known) where
+  of : (o : Option ProcessJob) → is_job_so says o ≡ of_one false (λ (j : ProcessJob). says j.states.state) o
+  of None = refl
+  of (Some j) = refl
 
 -- ---- while it is at work
 

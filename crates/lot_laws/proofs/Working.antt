@@ -8,27 +8,26 @@ use Rattle.substrate.specs.Tables.{processing_number, processing_table}
 use Rattle.substrate.specs.declared.record.Processing.{Processing}
 use Rattle.substrate.specs.declared.record.Processing.TheVariants as processing
 use Rattle.process_job.specs.declared.record.JobState.{JobState}
-use Rattle.process_job.specs.declared.job.ProcessJob.{ProcessJob}
 use Rattle.floor_model.specs.declared.tracked.Substrate.{Substrate}
 use Rattle.floor_model.specs.Floor.{ToolFloor, substrate_numbered}
 use Rattle.floor_model.specs.Jobs.{job_of, is_job_so, is_stopping, is_aborting}
 use Rattle.floor_model.specs.Substrates.{is_outside, is_in_slot}
 use Rattle.floor_model.specs.Naming.{module_names, processes}
-use Rattle.floor_model.specs.Wants.{substrate_wants}
+use Rattle.floor_model.specs.Wants.{is_between, is_outside_of, substrate_wants}
 use Rattle.floor_model.specs.Machines.{substrate_ready, with_moved, processing_machine, floor_fired}
 use Rattle.floor_moves.specs.Floor as law
 use Rattle.floor_moves.specs.Floor.{named}
 use Rattle.floor_moves.specs.Effects.{worked}
 use Rattle.floor_moves.specs.Valid.{Valid}
 use Rattle.floor_moves.proofs.Columns.{MayWork, worked-keeps}
-use Rattle.place_laws.specs.Picture.{picture, of_one, of_job}
+use Rattle.place_laws.specs.Picture.{picture, of_one}
 use Rattle.place_laws.specs.Sound.{Sound}
 use Rattle.floor_laws.proofs.EndOpen.{processes_busy}
 use Rattle.owed_laws.specs.Owed.{owed_to}
 use Rattle.owed_laws.specs.Undisturbed.{Undisturbed}
 use Rattle.owed_laws.proofs.Columns.{worked-stays}
 use Rattle.lot_laws.specs.Lot.{Executes}
-use Rattle.lot_laws.proofs.Standing.{on_base, undisturbed}
+use Rattle.lot_laws.proofs.Standing.{on_base, job_said, undisturbed}
 use Rattle.lot_laws.proofs.Done.{state_behind, worked-executes, worked_owed}
 use Rattle.floor_laws.proofs.EndRows.{is_needing, may_begin}
 
@@ -40,24 +39,21 @@ module _ (number : ℕ) (planned : ℕ → List (List ℕ)) (counted : ℕ → B
   u = undisturbed number counted f (on_base f sound.base) e
 
   module _ (s : Substrate) (known : substrate_numbered n f.substrates ≡ Some s) where
-    -- what its job says by numbers
-    said : (says : JobState → Bool) → is_job_so says (job_of s f.jobs) ≡ of_one false (of_job false (λ (j : ProcessJob). says j.states.state) f.jobs) (substrate_numbered n f.substrates)
-    said says = of (job_of s f.jobs) ∙ sym (ap (of_one false (of_job false (λ (j : ProcessJob). says j.states.state) f.jobs)) known) where
-      of : (o : Option ProcessJob) → is_job_so says o ≡ of_one false (λ (j : ProcessJob). says j.states.state) o
-      of None = refl
-      of (Some j) = refl
-
     not_stopping : is_job_so is_stopping (job_of s f.jobs) ≡ true → ⊥
-    not_stopping is = true≢false (sym is ∙ said is_stopping ∙ u.jobs.not_stopping n)
+    not_stopping is = true≢false (sym is ∙ job_said f n s known is_stopping ∙ u.jobs.not_stopping n)
 
     not_aborting : is_job_so is_aborting (job_of s f.jobs) ≡ true → ⊥
-    not_aborting is = true≢false (sym is ∙ said is_aborting ∙ u.jobs.not_aborting n)
+    not_aborting is = true≢false (sym is ∙ job_said f n s known is_aborting ∙ u.jobs.not_aborting n)
 
     neither : (is_job_so is_stopping (job_of s f.jobs) || is_job_so is_aborting (job_of s f.jobs)) ≡ true → ⊥
     neither is = of (is_job_so is_stopping (job_of s f.jobs)) (is_job_so is_aborting (job_of s f.jobs)) not_stopping not_aborting is where
       of : (a b : Bool) → (a ≡ true → ⊥) → (b ≡ true → ⊥) → (a || b) ≡ true → ⊥
       of true b p q r = p refl
       of false b p q r = q r
+
+    -- its job is so, where it is outside with such a job
+    of_its : (test : JobState → Bool) → is_outside_of test s f ≡ true → is_job_so test (job_of s f.jobs) ≡ true
+    of_its test w = (and_parts (is_outside s f.places) (is_job_so test (job_of s f.jobs)) (and_parts (is_outside s f.places && is_job_so test (job_of s f.jobs)) (is_between s f) w).0).1
 
     two : is_among processing_number (processing.NeedsProcessing ∷ []) s.states.processing ≡ true → list_any (processes s.sub) f.modules ≡ true → Keeps (with_moved 13 2 n f)
     two among names =
@@ -84,8 +80,8 @@ module _ (number : ℕ) (planned : ℕ → List (List ℕ)) (counted : ℕ → B
                 (
                   (λ i a w. absurd (neither (and_parts (is_job_so is_stopping (job_of s f.jobs) || is_job_so is_aborting (job_of s f.jobs)) (is_in_slot s f.places && not (list_any (module_names s.sub) f.modules)) w).0)),
                   (
-                    (λ i a w. absurd (not_stopping (and_parts (is_outside s f.places) (is_job_so is_stopping (job_of s f.jobs)) w).1)),
-                    ((λ i a w. absurd (not_aborting (and_parts (is_outside s f.places) (is_job_so is_aborting (job_of s f.jobs)) w).1)), ((λ i a w. absurd (cc)), tt)),
+                    (λ i a w. absurd (not_stopping (of_its is_stopping w))),
+                    ((λ i a w. absurd (not_aborting (of_its is_aborting w))), ((λ i a w. absurd (cc)), tt)),
                   ),
                 ),
               ),

@@ -76,7 +76,10 @@ module _ (number : ℕ) (planned : ℕ → List (List ℕ)) (counted : ℕ → B
   Falls g = Executes number planned counted g × (owed_to planned counted (picture g) + 1 ≡ owed_to planned counted (picture f))
 
   u : Undisturbed counted (picture f)
-  u = undisturbed number counted f (on_base f sound.base) e
+  u = undisturbed number planned counted f (on_base f sound.base) e
+
+  fits : ArePlanned planned (picture f)
+  fits = are_planned number planned counted f sound.base e
 
   is_busy : (picture f).equipment m ≡ busy (command_of c f.places)
   is_busy = busy_at f m c fetched here

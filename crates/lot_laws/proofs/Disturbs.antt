@@ -148,12 +148,8 @@ one_more n x (y ∷ ys) s e = of (y.number == n) e (one_more n x ys s) where
   of true q later = q
   of false q later = later q
 
-module _ (number : ℕ) (planned : ℕ → List (List ℕ)) (counted : ℕ → Bool) (before : ToolFloor) where
-  -- ---- the base, and the end
-
-  pub at_base : Executes number planned counted before → WorksOrIsDisturbed number counted before before
-  at_base e = inl (at_work_of number planned counted before e, refl)
-
+-- what is disturbed isn't calm
+module _ (number : ℕ) (counted : ℕ → Bool) (before : ToolFloor) where
   pub disturbed_not_calm : (f : ToolFloor) → Disturbed number counted before f → IsCalmBetween number counted before f → ⊥
   disturbed_not_calm f (ends is) calm = ending_not_executing (control_numbered number f.jobs.control.jobs) is calm.executes
   disturbed_not_calm f (loses n was less none) calm = let k = calm.going n was.0 was.1 was.2 in none_some k.0 (sym none ∙ k.1)
@@ -164,7 +160,13 @@ module _ (number : ℕ) (planned : ℕ → List (List ℕ)) (counted : ℕ → B
   disturbed_not_calm f (spoils n is one other) calm =
       true≢false (sym ((Decides-eqb ((picture f).processing n) ((picture before).processing n)).1 (calm.works n is one)) ∙ other)
 
-  pub executes_at_end : (f : ToolFloor) → WorksOrIsDisturbed number counted before f → IsCalmBetween number counted before f
+-- ---- the base, and the end
+
+module _ (number : ℕ) (planned : ℕ → List (List ℕ)) (counted : ℕ → Bool) (before : ToolFloor) where
+  pub at_base : Executes number planned counted before → WorksOrIsDisturbed number planned counted before before
+  at_base e = inl (at_work_of number planned counted before e, refl)
+
+  pub executes_at_end : (f : ToolFloor) → WorksOrIsDisturbed number planned counted before f → IsCalmBetween number counted before f
       → Executes number planned counted f × (owed_to planned counted (picture f) ≡ owed_to planned counted (picture before))
   executes_at_end f (inl w) calm = (executes_of number planned counted f w.0 calm.executes going, w.1) where
     going : (n : ℕ) (j : ProcessJob) → job_numbered n f.jobs.process.kept ≡ Some j → is_left_in number j.id f.jobs ≡ true → goes_on j.states.state ≡ true
@@ -172,8 +174,9 @@ module _ (number : ℕ) (planned : ℕ → List (List ℕ)) (counted : ℕ → B
         let was = w.0.steers.were n j kept left in
         let k = calm.going n was.0 was.1 was.2 in
         ap (λ (x : ProcessJob). goes_on x.states.state) (sym (some_same k.0 j (sym k.1 ∙ kept))) ∙ k.2
-  executes_at_end f (inr d) calm = absurd (disturbed_not_calm f d calm)
+  executes_at_end f (inr d) calm = absurd (disturbed_not_calm number counted before f d calm)
 
+module _ (number : ℕ) (counted : ℕ → Bool) (before : ToolFloor) where
   -- ---- changes that leave the jobs, and what processing says of substrates
 
   module _ (f : ToolFloor) where

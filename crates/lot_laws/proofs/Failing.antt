@@ -238,18 +238,18 @@ module _ (number : ℕ) (planned : ℕ → List (List ℕ)) (counted : ℕ → B
 
 module _ (number : ℕ) (planned : ℕ → List (List ℕ)) (counted : ℕ → Bool) (f : ToolFloor) (sound : Sound f) (e : Executes number planned counted f) where
   -- it is at work still, or is disturbed
-  works_or : (g : ToolFloor) → WorksOnOrEnds number planned counted f.jobs f g → WorksOrIsDisturbed number counted f g
+  works_or : (g : ToolFloor) → WorksOnOrEnds number planned counted f.jobs f g → WorksOrIsDisturbed number planned counted f g
   works_or g (inl on) = inl (on.0, on.2)
   works_or g (inr is) = inr is
 
   -- a command fails
-  pub failed-either : floor_least f ≡ None → (m : ℕ) → WorksOrIsDisturbed number counted f (listed (closing_rows 8 m f) f)
+  pub failed-either : floor_least f ≡ None → (m : ℕ) → WorksOrIsDisturbed number planned counted f (listed (closing_rows 8 m f) f)
   failed-either rest m = works_or (listed (closing_rows 8 m f) f) (failed-works number planned counted f sound (at_work_of number planned counted f e) rest m)
 
   -- a module goes down
-  pub down-either : floor_least f ≡ None → (m : ℕ) → WorksOrIsDisturbed number counted f (listed (closing_rows 9 m f) f)
+  pub down-either : floor_least f ≡ None → (m : ℕ) → WorksOrIsDisturbed number planned counted f (listed (closing_rows 9 m f) f)
   down-either rest m = works_or (listed (closing_rows 9 m f) f) (down-works number planned counted f sound (at_work_of number planned counted f e) rest m)
 
   -- a substrate is lost
-  pub lost-either : (sub : List ℕ) → WorksOrIsDisturbed number counted f (listed (lost_rows sub f) f)
+  pub lost-either : (sub : List ℕ) → WorksOrIsDisturbed number planned counted f (listed (lost_rows sub f) f)
   lost-either sub = works_or (listed (lost_rows sub f) f) (lost-works number planned counted f sound (at_work_of number planned counted f e) sub)

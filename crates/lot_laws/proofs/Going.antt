@@ -106,7 +106,7 @@ module _ (f : ToolFloor) (change : Substrate → Substrate) (alone : IsJobAlone 
       members = λ n is. let m = member_tells (map change f.substrates) w n (λ j. true) is in let b = found_before n m.one m.found in goes.members n b.0 m.job b.1 (ap (λ (x : Substrate). job_of x w) b.2 ∙ m.its);
       stands = λ n y found is. let b = found_before n y found in by n y (subst (λ (x : Substrate). Stands n x behind) b.2 (goes.stands n b.0 b.1 is (e.stands n b.0 b.1 is)));
       all = λ n k y i found kept left can. let b = found_before n y found in goes.joins n k b.0 i b.1 kept left (ap (λ (x : Substrate). can_join i f.shop x) b.2 ∙ can);
-      substrates = (agree-undisturbed (picture f) (record (picture behind) { jobs = (picture f).jobs }) behind_agrees counted h.valid (work-undisturbed number counted f (on_base f h.base) e)).substrates;
+      substrates = (agree-undisturbed (picture f) (record (picture behind) { jobs = (picture f).jobs }) behind_agrees counted h.valid (work-undisturbed number planned counted f (on_base f h.base) e)).substrates;
     } where
       by : (n : ℕ) (y : Substrate) → Stands n y behind → (is_done n (picture behind) ≡ true) ⊎ (IsInJob number (planned n) y behind ⊎ Waits number (planned n) y behind)
       by n y (inl done) = inl (done_same n ∙ done)

@@ -108,7 +108,7 @@ module _ (number : ℕ) (planned : ℕ → List (List ℕ)) (counted : ℕ → B
   given-executes m None q = (e, refl)
   given-executes m (Some move) q =
       let agrees = issuing_agrees m move f (is_idle_module (module_at m f.modules) (move_is m (views f) f.modules move q).idle) in
-      let stays = issued-stays planned counted (picture f) (undisturbed number counted f (on_base f h.base) e) m (task_of move.task f.places) (planned_fits f h.base m move q) in
+      let stays = issued-stays planned counted (picture f) (undisturbed number planned counted f (on_base f h.base) e) m (task_of move.task f.places) (planned_fits f h.base m move q) in
       let valid = issued-keeps (picture f) m (task_of move.task f.places) (planned_may f h.base h.valid m move q) h.valid in (
         record {
           steers = e.steers;

@@ -21,7 +21,6 @@ pub mod Registering
 pub mod Inputs
 pub mod InJobs
 pub mod Equipment
-pub mod Processed
 pub mod Ordered
 pub mod Orderly
 pub mod Failing

@@ -69,3 +69,12 @@ module _ (number : ℕ) (planned : ℕ → List (List ℕ)) (counted : ℕ → B
 
     of : IsMember f.substrates f.jobs (λ j. true) n → (picture f).jobs.route_of n ≡ planned n
     of m = by m (e.stands n m.one m.found (e.members n is))
+
+-- and the route that is planned for a counted one that isn't done is that of the first that names its slot
+pub planned_route : (number : ℕ) (planned : ℕ → List (List ℕ)) (counted : ℕ → Bool) (f : ToolFloor) → AreTogether f.jobs → Executes number planned counted f → (n : ℕ) (s : Substrate)
+    → substrate_numbered n f.substrates ≡ Some s → counted n ≡ true → is_done n (picture f) ≡ false → (j : ProcessJob) → job_numbered j.number f.jobs.process.kept ≡ Some j → first_naming number f s ≡ Some j.id
+    → route_by f.jobs.process j ≡ planned n
+planned_route number planned counted f t e n s found is left j its first = of (e.stands n s found is) where
+  of : (is_done n (picture f) ≡ true) ⊎ (IsInJob number (planned n) s f ⊎ Waits number (planned n) s f) → route_by f.jobs.process j ≡ planned n
+  of (inl done) = absurd (true≢false (sym done ∙ left))
+  of (inr how) = first_route number f t (planned n) s how j.number j its first

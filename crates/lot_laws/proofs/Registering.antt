@@ -93,7 +93,7 @@ module _ (number : ℕ) (planned : ℕ → List (List ℕ)) (counted : ℕ → B
   module _ (slot : SlotNo) (f : ToolFloor) (first : 1 ≤ slot.0) (last : slot.0 ≤ 25) (fill : Filling s valid c d port found present is_read at named slot.0 f) (e : AtWork number planned counted before (with_shop s f)) (unnamed : Unnamed f) where
     -- it stands undisturbed before
     u : Undisturbed counted (picture (with_shop s f))
-    u = work-undisturbed number counted (with_shop s f) (record { shop = valid; carried = fill.carried; members = fill.members }) e
+    u = work-undisturbed number planned counted (with_shop s f) (record { shop = valid; carried = fill.carried; members = fill.members }) e
 
     abbrev new : Substrate
     new = first_substrate (f.places.given + 1) (name_in_slot c.name slot.0) c.number (Slot port slot)

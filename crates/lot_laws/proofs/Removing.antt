@@ -162,7 +162,7 @@ module _ (number : ℕ) (planned : ℕ → List (List ℕ)) (counted : ℕ → B
       of false q = q
 
   stays : Undisturbed counted (forgotten c.number (picture f)) × (owed_to planned counted (forgotten c.number (picture f)) ≡ owed_to planned counted (picture f))
-  stays = forgotten-stays planned counted (picture f) kept.valid (work-undisturbed number counted f (on_base f kept.base) e) c.number ends
+  stays = forgotten-stays planned counted (picture f) kept.valid (work-undisturbed number planned counted f (on_base f kept.base) e) c.number ends
 
   pub taken-works : WorksOn number planned counted before f (with_shop (floor_of ps (without name f.shop.carriers) next) (without_carrier (Some c.number) f))
   taken-works = (

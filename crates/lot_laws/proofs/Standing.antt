@@ -173,4 +173,4 @@ module _ (number : ℕ) (planned : ℕ → List (List ℕ)) (counted : ℕ → B
   member_left = work-left number planned counted f h (at_work_of number planned counted f e)
 
   pub undisturbed : Undisturbed counted (picture f)
-  undisturbed = work-undisturbed number counted f h (at_work_of number planned counted f e)
+  undisturbed = work-undisturbed number planned counted f h (at_work_of number planned counted f e)

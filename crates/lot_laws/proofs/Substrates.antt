@@ -147,7 +147,7 @@ module _ (number : ℕ) (planned : ℕ → List (List ℕ)) (counted : ℕ → B
     transport-executes = (
       change-executes number planned counted f e n (substrate_moves 12 row) (λ x. refl) (λ x. refl) (λ x. (refl, refl)) f.modules moved_agrees.jobs.is_member
           (λ k kept done. ap (λ (p : ℕ). law.is_finished p && not (law.is_outside ((picture f).place_of k))) (moved_agrees.processing k kept) ∙ done) waits_on takes
-          (agree-undisturbed (picture f) (picture (with_moved 12 row n f)) moved_agrees counted h.valid (undisturbed number counted f (on_base f h.base) e)).substrates,
+          (agree-undisturbed (picture f) (picture (with_moved 12 row n f)) moved_agrees counted h.valid (undisturbed number planned counted f (on_base f h.base) e)).substrates,
       agree-owed (picture f) (picture (with_moved 12 row n f)) moved_agrees planned counted,
     ) where
       takes : (j : ProcessJob) (x : Substrate) → can_join j f.shop (substrate_moves 12 row x) ≡ true → can_join j f.shop x ≡ true

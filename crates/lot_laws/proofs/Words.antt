@@ -116,7 +116,7 @@ control_words = 1 ∷ 5 ∷ 6 ∷ 7 ∷ 9 ∷ 10 ∷ 11 ∷ 12 ∷ []
 module _ (number : ℕ) (planned : ℕ → List (List ℕ)) (counted : ℕ → Bool) (before f : ToolFloor) (h : Sound f) (t : AreTogether f.jobs) (s : AreStarted f.jobs) where
   -- what is so behind a row
   abbrev Goes : ToolFloor → Type 0
-  Goes g = WorksOrIsDisturbed number counted before g
+  Goes g = WorksOrIsDisturbed number planned counted before g
 
   abbrev AsMuch : Type 0
   AsMuch = owed_to planned counted (picture f) ≡ owed_to planned counted (picture before)
@@ -296,21 +296,21 @@ module _ (number : ℕ) (planned : ℕ → List (List ℕ)) (counted : ℕ → B
 
 module _ (number : ℕ) (planned : ℕ → List (List ℕ)) (counted : ℕ → Bool) (before f : ToolFloor) (o : InOrder f) where
   -- behind a row that a word fires
-  pub word-goes : (x : Firing) → is_word x ≡ true → floor_starts x f ≡ true → WorksOrIsDisturbed number counted before f → WorksOrIsDisturbed number counted before (floor_fired x f)
+  pub word-goes : (x : Firing) → is_word x ≡ true → floor_starts x f ≡ true → WorksOrIsDisturbed number planned counted before f → WorksOrIsDisturbed number planned counted before (floor_fired x f)
   word-goes x word starts goes = word_at number planned counted before f o.sound o.together o.started x word starts goes
 
   -- where a process job is created
-  pub created-goes : (spec : JobSpec) → create_fault spec f.jobs.process ≡ None → WorksOrIsDisturbed number counted before f → WorksOrIsDisturbed number counted before (with_jobs (with_process spec f.jobs) f)
+  pub created-goes : (spec : JobSpec) → create_fault spec f.jobs.process ≡ None → WorksOrIsDisturbed number planned counted before f → WorksOrIsDisturbed number planned counted before (with_jobs (with_process spec f.jobs) f)
   created-goes spec free (inl w) = inl (created-work number planned counted f o.sound o.together o.started w.0 spec free, w.1)
   created-goes spec free (inr d) = inr (disturbed-created number counted before f spec o.sound d)
 
   -- where a control job is created
-  pub added-goes : (name : List ℕ) (named : List (List ℕ)) (auto : Bool) → control_fault name named f.jobs ≡ None → WorksOrIsDisturbed number counted before f
-      → WorksOrIsDisturbed number counted before (with_jobs (with_control name named auto f.jobs) f)
+  pub added-goes : (name : List ℕ) (named : List (List ℕ)) (auto : Bool) → control_fault name named f.jobs ≡ None → WorksOrIsDisturbed number planned counted before f
+      → WorksOrIsDisturbed number planned counted before (with_jobs (with_control name named auto f.jobs) f)
   added-goes name named auto free (inl w) = inl (added-work number planned counted f o.sound o.together o.started w.0 name named auto free, w.1)
   added-goes name named auto free (inr d) = inr (disturbed-added number counted before f o.together o.started name named auto free d)
 
   -- where the order of the queue changes
-  pub headed-goes : (name : List ℕ) → WorksOrIsDisturbed number counted before f → WorksOrIsDisturbed number counted before (with_jobs (record f.jobs { control = headed name f.jobs.control }) f)
+  pub headed-goes : (name : List ℕ) → WorksOrIsDisturbed number planned counted before f → WorksOrIsDisturbed number planned counted before (with_jobs (record f.jobs { control = headed name f.jobs.control }) f)
   headed-goes name (inl w) = inl (headed-work number planned counted f o.sound o.together o.started w.0 name, w.1)
   headed-goes name (inr d) = inr (disturbed-headed number counted before f name d)

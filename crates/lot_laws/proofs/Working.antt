@@ -36,7 +36,7 @@ module _ (number : ℕ) (planned : ℕ → List (List ℕ)) (counted : ℕ → B
   Keeps g = Executes number planned counted g × (owed_to planned counted (picture g) ≡ owed_to planned counted (picture f))
 
   u : Undisturbed counted (picture f)
-  u = undisturbed number counted f (on_base f sound.base) e
+  u = undisturbed number planned counted f (on_base f sound.base) e
 
   module _ (s : Substrate) (known : substrate_numbered n f.substrates ≡ Some s) where
     not_stopping : is_job_so is_stopping (job_of s f.jobs) ≡ true → ⊥

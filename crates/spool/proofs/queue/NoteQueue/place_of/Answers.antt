@@ -1,6 +1,6 @@
 use Rattle.std.proofs.Common.{arith}
-use Rattle.spool_format.proofs.PutBack.{place_later, place_at}
-use Rattle.spool_format.proofs.queue.NoteQueue.place_of.Goals as goal
+use Rattle.spool.proofs.PutBack.{place_later, place_at}
+use Rattle.spool.proofs.queue.NoteQueue.place_of.Goals as goal
 
 pub returns-then-note_at-number-clause-place : goal.returns-then-note_at-number-clause-place
 returns-then-note_at-number-clause-place c note same = place_at c.args.self.now.notes note c.loop-index.index (c.loop-index.invariant.place note same) c.note_at.result.now c.note_at.ensures (omega (arith, same))

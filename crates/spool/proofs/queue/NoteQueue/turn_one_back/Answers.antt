@@ -1,8 +1,8 @@
 use Rattle.std.proofs.Common.{◌≡◌, ◌-◌, ◌≤◌, ◌∷◌, ◌++◌, length, take, drop, sym, ◌∙◌, ap, subst}
 use Rattle.std.specs.Prelude.{slice_get, Some}
-use Rattle.spool_format.specs.Queue.{NoteQueue}
-use Rattle.spool_format.proofs.PutBack.{last_first, some_last}
-use Rattle.spool_format.proofs.queue.NoteQueue.turn_one_back.Goals as goal
+use Rattle.spool.specs.Queue.{NoteQueue}
+use Rattle.spool.proofs.PutBack.{last_first, some_last}
+use Rattle.spool.proofs.queue.NoteQueue.turn_one_back.Goals as goal
 
 pub returns-in-Some : goal.returns-in-Some
 returns-in-Some c =

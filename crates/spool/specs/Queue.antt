@@ -1,7 +1,7 @@
--- The notes of a durable spool as they lie in memory.
+-- The notes of a spool as they lie in memory.
 use Rattle.std.specs.Prelude.{ℕ, ◌≤◌, List, length}
 use Rattle.spool.specs.declared.note.Note.{Note}
-use Rattle.spool_format.specs.declared.queue.NoteQueue.TheInside.{Inside}
+use Rattle.spool.specs.declared.queue.NoteQueue.TheInside.{Inside}
 
 -- what callers see
 pub record NoteQueue : Type 0 where

@@ -1,4 +1,4 @@
--- Notes by their numbers, and the place of one that is put back among them (this tool's profile, durable spool).
+-- Notes by their numbers, and the place of one that is put back among them (this tool's profile, spool).
 use Rattle.std.specs.Prelude.{ℕ, Bool, true, nat_lt, not, ◌&&◌, ◌==◌, if◌then◌else◌, List, [], ◌∷◌}
 use Rattle.spool.specs.declared.note.Note.{Note}
 

@@ -1,8 +1,8 @@
 use Rattle.std.proofs.Common.{◌≡◌, ℕ, ◌+◌, ◌-◌, List, ◌++◌, length, take, drop, refl, ◌∙◌, ap, subst, arith, length-append}
 use Rattle.std.proofs.lemmas.List.{length-take, length-drop}
 use Rattle.spool.specs.declared.note.Note.{Note}
-use Rattle.spool_format.proofs.PutBack.{turned_back}
-use Rattle.spool_format.proofs.queue.NoteQueue.turn_back.Goals as goal
+use Rattle.spool.proofs.PutBack.{turned_back}
+use Rattle.spool.proofs.queue.NoteQueue.turn_back.Goals as goal
 
 pub turns-preserved : goal.turns-preserved
 turns-preserved c =

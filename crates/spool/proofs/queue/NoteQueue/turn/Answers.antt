@@ -1,7 +1,7 @@
 use Rattle.std.proofs.Common.{List, ◌++◌, take, drop, ◌∙◌, ap, arith}
 use Rattle.spool.specs.declared.note.Note.{Note}
-use Rattle.spool_format.proofs.PutBack.{turned}
-use Rattle.spool_format.proofs.queue.NoteQueue.turn.Goals as goal
+use Rattle.spool.proofs.PutBack.{turned}
+use Rattle.spool.proofs.queue.NoteQueue.turn.Goals as goal
 
 pub turns-preserved : goal.turns-preserved
 turns-preserved c =

@@ -1,7 +1,7 @@
 use Rattle.std.proofs.Common.{rules, ◌≡◌, ◌+◌, ◌-◌, ℕ, true, false, drop, sym, ◌∙◌, subst, arith}
-use Rattle.spool_format.specs.ByNumber.{may_put_back}
-use Rattle.spool_format.proofs.PutBack.{none_before}
-use Rattle.spool_format.proofs.queue.NoteQueue.may_put_back.Goals as goal
+use Rattle.spool.specs.ByNumber.{may_put_back}
+use Rattle.spool.proofs.PutBack.{none_before}
+use Rattle.spool.proofs.queue.NoteQueue.may_put_back.Goals as goal
 
 pub returns-then-not-is_in_order : goal.returns-then-not-is_in_order
 returns-then-not-is_in_order c =

@@ -1,30 +1,31 @@
 //! The notes in memory.
 
-ghost use Rattle.std.specs.Prelude.{◌≡◌, ◌++◌, ◌∷◌, [], ◌+◌, ◌-◌, ◌<◌, ◌≤◌, ◌&&◌, ◌==◌, not, true, false, Some, nat_lt, length, take, drop, slice_get, IfOk};
+ghost use Rattle.std.specs.Prelude.{◌≡◌, ◌++◌, ◌∷◌, [], ◌+◌, ◌-◌, ◌<◌, ◌≤◌, ◌&&◌, ◌==◌, not, true, false, Some, nat_lt, length, take, drop, slice_get, option_copied, IfOk};
 ghost use Rattle.spool.specs.Limits.{most_capacity};
 ghost use Rattle.spool.specs.Spool.{told_as};
 ghost use Rattle.spool.specs.Full.{fitted, lost};
 ghost use Rattle.spool.specs.declared.note.Note.{Note};
-ghost use Rattle.spool_format.specs.ByNumber.{is_below, may_put_back, placed};
+ghost use Rattle.spool.specs.ByNumber.{is_below, may_put_back, placed};
 
+use crate::note::Note;
+use crate::spool::Pushed;
 use circular_buffer::HeapCircularBuffer;
-use spool::{Note, Pushed};
 use std::alloc::{AllocError, Global};
 use std::marker::Model;
 
-/// The notes of a durable spool in memory, from the oldest to the newest, up to a stated number. They go by the rule of a full spool, and
-/// have none of the states of one. Only `new` takes memory.
+/// The notes of a spool in memory, from the oldest to the newest, up to a stated number. They go by the rule of a full spool, and have none
+/// of the states of one. Only `new` takes memory.
 #[derive(Drop)]
 pub struct NoteQueue {
     notes: HeapCircularBuffer<Note>,
 }
 
 impl Model for NoteQueue {
-    ghost use Rattle.spool_format.specs.Queue.{NoteQueue};
+    ghost use Rattle.spool.specs.Queue.{NoteQueue};
 
     ghost Value = { NoteQueue };
 
-    ghost use Rattle.spool_format.specs.Queue.{queue_of, IsKept};
+    ghost use Rattle.spool.specs.Queue.{queue_of, IsKept};
 
     ghost view = { queue_of };
 
@@ -48,6 +49,20 @@ impl NoteQueue {
         ensures within { length self.now.notes ≤ self.now.capacity }
     {
         self.notes.len()
+    }
+
+    /// How many notes there may be.
+    pub fn capacity(&self) -> usize
+        ensures { result ≡ self.now.capacity }
+    {
+        self.notes.capacity()
+    }
+
+    /// The oldest note.
+    pub fn oldest(&self) -> Option<&Note>
+        ensures { option_copied result ≡ slice_get self.now.notes 0 }
+    {
+        self.notes.front()
     }
 
     /// Whether there is a note.

@@ -6,7 +6,7 @@ use Rattle.std.proofs.lemmas.List.{take_more, drop_more, drop_at, drop_all, take
 use Rattle.std.proofs.lemmas.Option.{slice_get_within, get_or_from_slice_get, slice_get-get_or}
 use Rattle.spool.specs.declared.note.Note.{Note}
 use Rattle.spool.specs.Full.{fitted, lost}
-use Rattle.spool_format.specs.ByNumber.{is_below, may_put_back, placed}
+use Rattle.spool.specs.ByNumber.{is_below, may_put_back, placed}
 
 -- ---- the notes from a place on
 

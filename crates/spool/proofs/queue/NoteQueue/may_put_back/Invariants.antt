@@ -1,6 +1,6 @@
 use Rattle.std.proofs.Common.{◌≡◌, ◌≤◌, true, length, drop}
-use Rattle.spool_format.specs.ByNumber.{may_put_back}
-use Rattle.spool_format.proofs.queue.NoteQueue.may_put_back.Given as goal
+use Rattle.spool.specs.ByNumber.{may_put_back}
+use Rattle.spool.proofs.queue.NoteQueue.may_put_back.Given as goal
 
 abbrev pub invariant-notes : goal.invariant-notes
 invariant-notes l = record {

@@ -1,8 +1,8 @@
 use Rattle.std.proofs.Common.{◌≡◌, ℕ, ◌+◌, ◌-◌, List, ◌∷◌, ◌++◌, length, take, drop, refl, ◌∙◌, ap, arith, length-append}
 use Rattle.std.proofs.lemmas.List.{length-take, length-drop}
 use Rattle.spool.specs.declared.note.Note.{Note}
-use Rattle.spool_format.proofs.PutBack.{put_between}
-use Rattle.spool_format.proofs.queue.NoteQueue.put_at.Goals as goal
+use Rattle.spool.proofs.PutBack.{put_between}
+use Rattle.spool.proofs.queue.NoteQueue.put_at.Goals as goal
 
 pub returns : goal.returns
 returns c =

@@ -1,7 +1,7 @@
 use Rattle.std.proofs.Common.{◌≡◌, ◌++◌, length, take, drop}
 use Rattle.spool.specs.declared.note.Note.{Note}
-use Rattle.spool_format.specs.ByNumber.{placed}
-use Rattle.spool_format.proofs.queue.NoteQueue.place_of.Given as goal
+use Rattle.spool.specs.ByNumber.{placed}
+use Rattle.spool.proofs.queue.NoteQueue.place_of.Given as goal
 
 abbrev pub invariant-loop-index : goal.invariant-loop-index
 invariant-loop-index l = record {

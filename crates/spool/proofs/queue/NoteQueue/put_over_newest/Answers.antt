@@ -2,9 +2,9 @@ use Rattle.std.proofs.Common.{◌≡◌, ℕ, ◌-◌, ◌≤◌, false, ◌∷�
 use Rattle.std.specs.Prelude.{suc, slice_get, Option}
 use Rattle.spool.specs.declared.note.Note.{Note}
 use Rattle.spool.specs.Spool.{told_as}
-use Rattle.spool_format.specs.Queue.{NoteQueue}
-use Rattle.spool_format.proofs.PutBack.{over_newest, newest_over}
-use Rattle.spool_format.proofs.queue.NoteQueue.put_over_newest.Goals as goal
+use Rattle.spool.specs.Queue.{NoteQueue}
+use Rattle.spool.proofs.PutBack.{over_newest, newest_over}
+use Rattle.spool.proofs.queue.NoteQueue.put_over_newest.Goals as goal
 
 pub returns-clause-after : goal.returns-clause-after
 returns-clause-after c =

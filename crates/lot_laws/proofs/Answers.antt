@@ -22,7 +22,8 @@ use Rattle.floor_model.specs.declared.tracked.Substrate.{Substrate}
 use Rattle.floor_model.specs.Floor.{ToolFloor, substrate_numbered, with_module, change_numbered}
 use Rattle.floor_model.specs.Modules.{module_behind, open_task, aligned, aligned_numbered, aligned_by, stepped, number_named}
 use Rattle.floor_model.specs.Signals.{done_row}
-use Rattle.floor_model.specs.Views.{goes_on}
+use Rattle.floor_model.specs.Jobs.{job_of, is_job_so, is_aborting}
+use Rattle.floor_model.specs.Views.{route_for, goes_on}
 use Rattle.floor_model.specs.Machines.{substrate_starts, with_moved, floor_starts, floor_fired}
 use Rattle.floor_moves.specs.Floor as law
 use Rattle.floor_moves.specs.Floor.{Loc, Command, aligner, pick, place, align, process, busy, idle, step_at, next_step, is_done}
@@ -34,7 +35,7 @@ use Rattle.floor_moves.proofs.Done.{done_align-keeps, finished-keeps, stepped-ke
 use Rattle.floor_moves.proofs.Moving.{idle_not_busy}
 use Rattle.place_laws.specs.Picture.{picture, loc_of, numbered, task_of, of_one}
 use Rattle.place_laws.specs.Sound.{Sound}
-use Rattle.place_laws.proofs.Routes.{more_left}
+use Rattle.place_laws.proofs.Routes.{its_job, more_is}
 use Rattle.picture_laws.proofs.Columns.{says_same}
 use Rattle.picture_laws.proofs.Closing.{modules_behind, aligning_agrees}
 use Rattle.floor_laws.proofs.EndNames.{named_place, number_there, named_kept}
@@ -163,7 +164,10 @@ module _ (number : ℕ) (planned : ℕ → List (List ℕ)) (counted : ℕ → B
       begun = ap (of_one 0 (λ (s : Substrate). processing_number s.states.processing)) r.known ∙ ap processing_number r.running
 
       more : (picture f).steps_of n + 1 < length ((picture f).jobs.route_of n)
-      more = more_left f n r.one r.known r.member goes
+      more =
+          let j = its_job f n r.one r.known r.member in
+          more_is f n r.one r.known j.0 j.1
+          (and_parts (not (is_job_so is_aborting (job_of r.one f.jobs))) (nat_lt (r.one.steps + 1) (length (route_for r.one f.jobs))) (sym (ap (λ (o : Option Substrate). goes_on o f) r.known) ∙ goes)).1
 
       -- its route has six steps at the most
       below : nat_lt r.one.steps most_steps ≡ true
@@ -239,8 +243,8 @@ module _ (number : ℕ) (planned : ℕ → List (List ℕ)) (counted : ℕ → B
           let unfinished = running s found is in
           let falls = less (state_behind r s) unfinished ends in
           let valid = finished-keeps (picture f) n (state_behind r s) ends unnamed sound.valid in (
-            worked-executes number planned counted f sound.base e n r s found member unfinished valid falls.0,
-            ap (λ (k : ℕ). k + 1) (worked_owed number planned counted f sound.base e n r s found member unfinished valid falls.0) ∙ falls.1,
+            worked-executes number planned counted f sound.base e n r s found (λ q. ends) member unfinished valid falls.0,
+            ap (λ (k : ℕ). k + 1) (worked_owed number planned counted f sound.base e n r s found (λ q. ends) member unfinished valid falls.0) ∙ falls.1,
           )
 
       row_3 : (o : Option Substrate) → substrate_numbered n f.substrates ≡ o → substrate_starts processing_number processing_table (λ s. s.processing) 3 o f ≡ true → FallsBehind 3

@@ -56,11 +56,11 @@ needing_before row processing.Skipped e = absurd (not_both (is_needing (after pr
 module _ (number : ℕ) (planned : ℕ → List (List ℕ)) (counted : ℕ → Bool) (f : ToolFloor) (b : Base f) (e : Executes number planned counted f) where
   -- ---- a row of table 13 of a member that isn't finished yet
 
-  module _ (n row : ℕ) (s : Substrate) (at : substrate_numbered n f.substrates ≡ Some s) (member : (picture f).jobs.is_member n ≡ true) (unfinished : law.is_finished ((picture f).processing n) ≡ false)
+  module _ (n row : ℕ) (s : Substrate) (at : substrate_numbered n f.substrates ≡ Some s) (ends : (row == 3) ≡ true → law.is_finished (state_behind row s) ≡ true) (member : (picture f).jobs.is_member n ≡ true) (unfinished : law.is_finished ((picture f).processing n) ≡ false)
       (valid : Valid (worked n (state_behind row s) (picture f))) (stands_then : Undisturbed counted (worked n (state_behind row s) (picture f)))
     where
       agrees : Agree (worked n (state_behind row s) (picture f)) (picture (with_moved 13 row n f))
-      agrees = processing_agrees f n row s at
+      agrees = processing_agrees f n row s at ends
 
       pub worked_owed : owed_to planned counted (picture (with_moved 13 row n f)) ≡ owed_to planned counted (worked n (state_behind row s) (picture f))
       worked_owed = agree-owed (worked n (state_behind row s) (picture f)) (picture (with_moved 13 row n f)) agrees planned counted

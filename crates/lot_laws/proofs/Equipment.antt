@@ -1,5 +1,6 @@
 -- Done of the open command of a module takes one off what is owed, with all its rows, where no row is ready before it.
-use Rattle.std.proofs.Common.{◌≡◌, ℕ, ◌+◌, Bool, true, false, if◌then◌else◌, ◌&&◌, ◌++◌, List, [], ◌∷◌, length, Option, Some, None, refl, sym, ◌∙◌, ap, subst}
+use Rattle.std.proofs.Common.{◌≡◌, ℕ, ◌+◌, Bool, true, false, if◌then◌else◌, not, ◌&&◌, nat_lt, arith, ◌++◌, List, [], ◌∷◌, length, Option, Some, None, refl, sym, ◌∙◌, ap, subst}
+use Rattle.std.proofs.lemmas.Bool.{true≢false}
 use Rattle.gem_tables.specs.Table.{firing, is_one_of, is_among}
 use Rattle.gem_tables.proofs.Rows.{one_of_cases}
 use Rattle.tool_tasks.specs.declared.task.Command.{Command as ToolCommand}
@@ -15,7 +16,7 @@ use Rattle.floor_model.specs.declared.tracked.Substrate.{Substrate}
 use Rattle.floor_model.specs.Floor.{ToolFloor, substrate_numbered}
 use Rattle.floor_model.specs.Jobs.{job_of, is_job_so, is_aborting}
 use Rattle.floor_model.specs.Modules.{number_named}
-use Rattle.floor_model.specs.Views.{goes_on}
+use Rattle.floor_model.specs.Views.{route_for, goes_on}
 use Rattle.floor_model.specs.Signals.{at_module, done_row, at_done, done_processed, done_processing, done_at, done_rows}
 use Rattle.floor_model.specs.Machines.{substrate_starts, floor_starts, floor_fired, floor_least}
 use Rattle.floor_moves.specs.Floor as law
@@ -23,7 +24,7 @@ use Rattle.floor_moves.specs.Floor.{Loc, next_step}
 use Rattle.floor_moves.specs.Valid.{ProcessStands, IsUnnamed}
 use Rattle.place_laws.specs.Picture.{picture}
 use Rattle.place_laws.specs.Sound.{Sound}
-use Rattle.place_laws.proofs.Routes.{none_more}
+use Rattle.place_laws.proofs.Routes.{its_job, last_is}
 use Rattle.floor_laws.specs.Rows.{one_listed, listed}
 use Rattle.floor_laws.proofs.EndOpen.{command_of, busy_at}
 use Rattle.floor_laws.proofs.EndProcess.{done_closes, done_unnamed, process_sound}
@@ -32,6 +33,11 @@ use Rattle.floor_laws.proofs.FloorInputs.{listed_starts, done_starts, done_one}
 use Rattle.lot_laws.specs.Lot.{HaveRoutes, Executes, TakesOneOff}
 use Rattle.lot_laws.proofs.Standing.{on_base, job_said, undisturbed}
 use Rattle.lot_laws.proofs.Answers.{done_moved-falls, stepped-falls, closed-executes, processed-falls}
+
+-- one whose job isn't ABORTING goes on where a step is left
+none_more : (a b : Bool) → a ≡ false → (not a && b) ≡ false → b ≡ false
+none_more false b whole e = e
+none_more true b whole e = absurd (true≢false whole)
 
 -- a chamber is one by its place
 same_chamber : (c d : ℕ) → Some (law.chamber c) ≡ Some (law.chamber d) → c ≡ d
@@ -76,7 +82,11 @@ module _ (number : ℕ) (planned : ℕ → List (List ℕ)) (counted : ℕ → B
       -- one that doesn't go on has done the last step of its route
       last : goes_on (substrate_numbered n f.substrates) f ≡ false → (picture f).steps_of n + 1 ≡ length ((picture f).jobs.route_of n)
       last stays =
-          none_more f n r.one r.known r.member whole (sym (ap (λ (o : Option Substrate). goes_on o f) r.known) ∙ stays) (sound.valid.members.left n r.member stands.3)
+          let j = its_job f n r.one r.known r.member in
+          let none = none_more (is_job_so is_aborting (job_of r.one f.jobs)) (nat_lt (r.one.steps + 1) (length (route_for r.one f.jobs))) whole (sym (ap (λ (o : Option Substrate). goes_on o f) r.known) ∙ stays) in
+          let most = last_is f n r.one r.known j.0 j.1 none in
+          let left = sound.valid.members.left n r.member stands.3 in
+          omega (arith, most, left)
 
       -- the chamber is in its next step
       due : is_one_of (next_step n (picture f)) r.chamber ≡ true

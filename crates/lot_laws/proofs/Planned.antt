@@ -10,8 +10,9 @@ use Rattle.floor_model.specs.declared.tracked.Substrate.{Substrate}
 use Rattle.floor_model.specs.Floor.{ToolFloor, substrate_numbered}
 use Rattle.floor_moves.specs.Floor as law
 use Rattle.floor_moves.specs.Floor.{is_done}
-use Rattle.place_laws.specs.Picture.{picture, steps_in, of_one, of_job}
+use Rattle.place_laws.specs.Picture.{picture, steps_in}
 use Rattle.place_laws.specs.Sound.{Base}
+use Rattle.place_laws.proofs.Routes.{route_is}
 use Rattle.floor_laws.proofs.JobSight.{none_some, some_same}
 use Rattle.floor_laws.proofs.JobLists.{none_first}
 use Rattle.floor_laws.proofs.JobSays.{IsMember, member_tells}
@@ -52,19 +53,13 @@ waits_free number route f b k x found w is =
     none_some m.job (sym (none_first f.jobs.process.given f.jobs.process.kept b.jobs.numbered) ∙ subst (λ (i : ℕ). job_numbered i f.jobs.process.kept ≡ Some m.job) zero m.its)
 
 module _ (number : ℕ) (planned : ℕ → List (List ℕ)) (counted : ℕ → Bool) (f : ToolFloor) (b : Base f) (e : Executes number planned counted f) where
-  -- the route of one in a process job is that of the job
-  member_route : (n : ℕ) (m : IsMember f.substrates f.jobs (λ j. true) n) → (picture f).jobs.route_of n ≡ route_by f.jobs.process m.job
-  member_route n m =
-      ap (of_one [] (of_job [] (λ (j : ProcessJob). route_by f.jobs.process j) f.jobs)) m.found
-      ∙ ap (of_one [] (λ (j : ProcessJob). route_by f.jobs.process j)) m.its
-
-  -- so the route of each unfinished one in a process job is the one that is planned for it
+  -- the route of each unfinished one in a process job is the one that is planned for it
   pub are_planned : ArePlanned planned (picture f)
   are_planned n is unfinished = of (member_tells f.substrates f.jobs n (λ j. true) is) where
     by : (m : IsMember f.substrates f.jobs (λ j. true) n) → (is_done n (picture f) ≡ true) ⊎ (IsInJob number (planned n) m.one f ⊎ Waits number (planned n) m.one f) → (picture f).jobs.route_of n ≡ planned n
     by m (inl done) =
         absurd (true≢false (sym (and_parts (law.is_finished ((picture f).processing n)) (not (law.is_outside ((picture f).place_of n))) done).0 ∙ unfinished))
-    by m (inr (inl its)) = member_route n m ∙ ap (route_by f.jobs.process) (some_same m.job its.0 (sym m.its ∙ its.1)) ∙ its.3
+    by m (inr (inl its)) = route_is f n m.one m.found m.job m.its ∙ ap (route_by f.jobs.process) (some_same m.job its.0 (sym m.its ∙ its.1)) ∙ its.3
     by m (inr (inr w)) = absurd (waits_free number (planned n) f b n m.one m.found w is)
 
     of : IsMember f.substrates f.jobs (λ j. true) n → (picture f).jobs.route_of n ≡ planned n

@@ -65,7 +65,7 @@ module _ (number : ℕ) (planned : ℕ → List (List ℕ)) (counted : ℕ → B
         let may : MayWork n 1 (picture f) = may_begin f n sound s known needs names in
         let valid : Valid (worked n (state_behind 2 s) (picture f)) = worked-keeps (picture f) n (state_behind 2 s) (subst (λ (k : ℕ). MayWork n k (picture f)) (sym goes) may) sound.valid in
         let stays = worked-stays planned counted (picture f) u n (state_behind 2 s) (ap law.is_finished goes ∙ sym unfinished) in
-        (worked-executes number planned counted f sound.base e n 2 s known member unfinished valid stays.0, worked_owed number planned counted f sound.base e n 2 s known member unfinished valid stays.0 ∙ stays.1)
+        (worked-executes number planned counted f sound.base e n 2 s known (λ q. absurd (true≢false (sym q))) member unfinished valid stays.0, worked_owed number planned counted f sound.base e n 2 s known (λ q. absurd (true≢false (sym q))) member unfinished valid stays.0 ∙ stays.1)
 
     ready : (row : ℕ) → substrate_ready processing_number processing_table (λ x. x.processing) (Some s) f ≡ Some row → Keeps (floor_fired (firing 13 n row) f)
     ready row e =

@@ -180,7 +180,7 @@ module _ (number : ℕ) (counted : ℕ → Bool) (f : ToolFloor) where
   Calm h = IsCalmBetween number counted f h
 
   -- nothing was done
-  pub calm_base : Executes number counted f → Calm f
+  pub calm_base : {planned : ℕ → List (List ℕ)} → Executes number planned counted f → Calm f
   calm_base e = record { executes = e.steers.executes; going = λ n j kept left. (j, kept, e.steers.going n j kept left); works = λ n is over. refl }
 
   -- where the jobs stay, and of counted substrates those that ended say what they said

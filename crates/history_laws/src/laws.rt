@@ -56,8 +56,8 @@ pub fn each_substrate_moves_once_a_command_in_a_history()
 
 /// Where a history leads, a command is open while no module is Down and work is left: a process job is PROCESSING, STOPPING or ABORTING,
 /// and not each of its members is finished and in its slot or removed; or it is PAUSING, and a member is outside. So the tool never
-/// stands still with work to do. Each recipe of the configuration is to have a chamber of the tool, and has one then throughout, as has
-/// that of each process job.
+/// stands still with work to do, whatever the routes. Each step of each recipe of the configuration is to have a chamber of the tool, and
+/// has one then throughout, as have those of the recipe of each process job.
 pub fn a_command_is_open_in_a_history()
     ensures works { (c : Config) (entries : List Entry) (h : State) → c.ports ≤ most_ports → c.chambers ≤ most_chambers
         → are_usable c.chambers c.recipes ≡ true → Run (opening c) entries h

@@ -11,7 +11,7 @@ use Rattle.robot_moves.specs.declared.view.PlaceView.{PlaceView}
 abbrev pub slot : ℕ → LocId
 slot k = loc.Slot (record { 0 = 1 }) (record { 0 = k })
 
--- the first substrate of CAR01, in its slot, unfinished and not aligned, with its job PROCESSING; both chambers are in its recipe
+-- the first substrate of CAR01, in its slot, unfinished and not aligned, with its job PROCESSING; both chambers are in its next step
 abbrev pub first_wafer : PlaceView
 first_wafer = record {
   sub = codes "CAR01.01";

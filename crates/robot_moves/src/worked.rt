@@ -14,7 +14,7 @@ pub fn a_substrate_is_picked()
     ensures down { next_move (first_wafer ∷ []) aligner_down ≡ None }
 {}
 
-/// What the arm holds goes to the least numbered chamber of its recipe that is empty and Idle.
+/// What the arm holds goes to the least numbered chamber of its next step that is empty and Idle.
 pub fn a_substrate_goes_on_from_the_arm()
     ensures idle { next_move (on_arm ∷ []) all_idle ≡ Some (move_by 1 1 (task.Place (codes "CAR01.01") (loc.Chamber 1))) }
     ensures busy { next_move (on_arm ∷ []) first_chamber_busy ≡ Some (move_by 1 1 (task.Place (codes "CAR01.01") (loc.Chamber 2))) }

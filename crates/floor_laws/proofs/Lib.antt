@@ -25,6 +25,7 @@ pub mod JobSight
 pub mod JobNamed
 pub mod JobWork
 pub mod JobChanges
+pub mod JobSteps
 pub mod JobSays
 pub mod JobLists
 pub mod JobStates

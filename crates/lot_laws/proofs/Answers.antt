@@ -116,7 +116,7 @@ module _ (number : ℕ) (planned : ℕ → List (List ℕ)) (counted : ℕ → B
   aligned-executes : (n : ℕ) (s : Substrate) → substrate_numbered n f.substrates ≡ Some s → Valid (aligned_by_numbers n m (picture f)) → OneLess planned counted (picture f) (aligned_by_numbers n m (picture f))
       → Falls (with_module m (module_behind 6) (record f { substrates = change_numbered n aligned f.substrates }))
   aligned-executes n s found valid less = (
-    change-executes number planned counted f e n aligned (λ x. refl) (λ x. refl) (λ x. (refl, refl)) (change_module m (module_behind 6) f.modules) agrees.jobs.is_member (λ k kept is. done k ∙ is) (λ x there w. w.joins) (λ j x can. can) (agree-undisturbed _ _ agrees counted valid less.0).substrates,
+    change-executes number planned counted f e n aligned (λ x. refl) (λ x. refl) (λ x. (refl, refl)) (change_module m (module_behind 6) f.modules) agrees.jobs.is_member (λ k kept is. done k ∙ is) (λ x there route w. w.joins) (λ j x can. can) (agree-undisturbed _ _ agrees counted valid less.0).substrates,
     ap (λ (k : ℕ). k + 1) (agree-owed _ _ agrees planned counted) ∙ less.1,
   ) where
     agrees : Agree (aligned_by_numbers n m (picture f)) (picture (with_module m (module_behind 6) (record f { substrates = change_numbered n aligned f.substrates })))
@@ -154,7 +154,7 @@ module _ (number : ℕ) (planned : ℕ → List (List ℕ)) (counted : ℕ → B
     pub stepped-falls : HaveRoutes f → IsRunning f n → goes_on (substrate_numbered n f.substrates) f ≡ true
         → Executes number planned counted (floor_fired (firing 16 m 7) f) × (owed_to planned counted (picture (floor_fired (firing 16 m 7) f)) + 1 ≡ owed_to planned counted (picture f))
     stepped-falls routes r goes = subst Falls (sym (done_steps f m c fetched here sub recipe q n names goes)) (
-      change-executes number planned counted f e n stepped (λ x. refl) (λ x. refl) (λ x. (refl, refl)) (change_module m (module_behind 7) f.modules) agrees.jobs.is_member (λ k kept is. done k ∙ is) (λ x there w. w.joins) (λ j x can. can) (agree-undisturbed _ _ agrees counted valid less.0).substrates,
+      change-executes number planned counted f e n stepped (λ x. refl) (λ x. refl) (λ x. (refl, refl)) (change_module m (module_behind 7) f.modules) agrees.jobs.is_member (λ k kept is. done k ∙ is) (λ x there route w. w.joins) (λ j x can. can) (agree-undisturbed _ _ agrees counted valid less.0).substrates,
       ap (λ (k : ℕ). k + 1) (agree-owed _ _ agrees planned counted) ∙ less.1,
     ) where
       t : task_of c.task f.places ≡ process n

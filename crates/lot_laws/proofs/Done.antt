@@ -83,5 +83,5 @@ module _ (number : ℕ) (planned : ℕ → List (List ℕ)) (counted : ℕ → B
 
       pub worked-executes : Executes number planned counted (with_moved 13 row n f)
       worked-executes =
-          change-executes number planned counted f e n (substrate_moves 13 row) (λ x. refl) (λ x. refl) (λ x. (refl, refl)) f.modules agrees.jobs.is_member done_on (λ x found w. absurd (waits_free number (planned n) f b n x found w member)) takes
+          change-executes number planned counted f e n (substrate_moves 13 row) (λ x. refl) (λ x. refl) (λ x. (refl, refl)) f.modules agrees.jobs.is_member done_on (λ x found route w. absurd (waits_free number route f b n x found w member)) takes
           (agree-undisturbed (worked n (state_behind row s) (picture f)) (picture (with_moved 13 row n f)) agrees counted valid stands_then).substrates

@@ -105,7 +105,7 @@ fetched-works number planned counted f e m = modules-work number planned counted
 -- ---- its substrates stand as they do, or one has ended
 
 -- they stand so still, or a counted substrate is ABORTED, STOPPED, LOST or SKIPPED that wasn't so
-abbrev pub WorksOnOrEnds : ℕ → (ℕ → Bool) → Jobs → ToolFloor → ToolFloor → Type 0
+abbrev pub WorksOnOrEnds : ℕ → (ℕ → List (List ℕ)) → (ℕ → Bool) → Jobs → ToolFloor → ToolFloor → Type 0
 WorksOnOrEnds number planned counted before f g = WorksOn number planned counted before f g ⊎ Disturbed number counted f g
 
 module _ (number : ℕ) (planned : ℕ → List (List ℕ)) (counted : ℕ → Bool) (f : ToolFloor) (sound : Sound f) {before : Jobs} (e : AtWork number planned counted before f) where

@@ -44,7 +44,8 @@ use Rattle.floor_laws.proofs.JobSays.{any_found}
 use Rattle.floor_laws.proofs.GrowTaken.{by_its_number}
 use Rattle.floor_laws.proofs.ShopAccess.{SameAccess, found_numbered, transfer_access, mode_access, reservation_access, association_access, id_access, map_access}
 use Rattle.floor_laws.proofs.ShopTables.{is_shop_row, MayAccess, may_access, takes_none}
-use Rattle.lot_laws.specs.Lot.{is_in_named_slot, first_naming, owed_to, IsInJob, Waits, Executes, AtWork}
+use Rattle.owed_laws.specs.Owed.{owed_to}
+use Rattle.lot_laws.specs.Lot.{is_in_named_slot, first_naming, IsInJob, Waits, Executes, AtWork}
 use Rattle.lot_laws.proofs.Standing.{on_base, carried, work-jobs}
 use Rattle.lot_laws.proofs.First.{any_alike, first_shop}
 use Rattle.lot_laws.proofs.AtWork.{at_work_of}

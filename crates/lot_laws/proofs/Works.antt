@@ -13,7 +13,7 @@ use Rattle.lot_laws.specs.Lot.{IsInJob, Waits, Executes, AtWork}
 use Rattle.lot_laws.proofs.AtWork.{executes_by}
 
 -- it is at work behind the change, the jobs are the same, and as much is owed
-abbrev pub WorksOn : ℕ → (ℕ → Bool) → Jobs → ToolFloor → ToolFloor → Type 0
+abbrev pub WorksOn : ℕ → (ℕ → List (List ℕ)) → (ℕ → Bool) → Jobs → ToolFloor → ToolFloor → Type 0
 WorksOn number planned counted before f g = AtWork number planned counted before g × (g.jobs ≡ f.jobs) × (owed_to planned counted (picture g) ≡ owed_to planned counted (picture f))
 
 -- so it executes on

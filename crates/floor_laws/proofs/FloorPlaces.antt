@@ -218,7 +218,8 @@ one_place_sound f sound = one_place (picture f) sound.valid
 pub one_place_behind : (f : ToolFloor) (m row : ℕ) → floor_starts (firing 16 m row) f ≡ true → is_one_of (5 ∷ 6 ∷ 7 ∷ 8 ∷ 9 ∷ 10 ∷ []) row ≡ true → Sound f → OnePlace (picture (floor_fired (firing 16 m row) f))
 one_place_behind f m row starts one sound =
     one_of_cases (λ (r : ℕ). floor_starts (firing 16 m r) f ≡ true → OnePlace (picture (floor_fired (firing 16 m r) f))) (5 ∷ 6 ∷ 7 ∷ 8 ∷ 9 ∷ 10 ∷ []) row (
-      kept 5 refl, (kept 6 refl, ((λ s. one_place_done f m s sound), (kept 8 refl, (kept 9 refl, (kept 10 refl, tt))))),
+      kept 5 refl,
+      (kept 6 refl, ((λ s. one_place_done f m s sound), (kept 8 refl, (kept 9 refl, (kept 10 refl, tt))))),
     )
     one starts
   where

@@ -8,7 +8,7 @@ use Rattle.gem_tables.proofs.Machines.{none_ready}
 use Rattle.robot_moves.specs.declared.module.Module.{Module}
 use Rattle.robot_moves.specs.declared.module.Module.TheVariants.{Idle, Busy, Down}
 use Rattle.substrate.specs.Places.{is_any_at_work}
-use Rattle.substrate.specs.Record.{is_needing}
+use Rattle.substrate.specs.Record.{is_needing, is_in_process}
 use Rattle.substrate.specs.Tables.{transport_number, transport_table, processing_number, processing_table}
 use Rattle.substrate.specs.declared.record.Transport.{Transport}
 use Rattle.substrate.specs.declared.record.Transport.TheVariants.{AtSource, AtWork, AtDestination}
@@ -145,7 +145,7 @@ none_of_processing : (f : ToolFloor) (s : Substrate) (p : Processing) → (is_ne
     → is_job_so is_stopping (job_of s f.jobs) ≡ false → is_job_so is_aborting (job_of s f.jobs) ≡ false
     → first_itself processing_number (λ want. substrate_wants want s f) processing_table p ≡ None
 none_of_processing f s NeedsProcessing none stops aborts =
-    rw (none refl) (chain (Some 5) (Some 6) (Some 7) (is_job_so is_stopping (job_of s f.jobs)) (is_job_so is_aborting (job_of s f.jobs)) (is_outside s f.places) (is_in_slot s f.places && not (list_any (module_names s.sub) f.modules)) (is_between s f) stops aborts)
+    rw (none refl) (chain (Some 5) (Some 6) (Some 7) (is_job_so is_stopping (job_of s f.jobs)) (is_job_so is_aborting (job_of s f.jobs)) (is_outside s f.places) (is_in_slot s f.places && not (list_any (module_names s.sub) f.modules)) (not (is_in_process s.states.processing && false)) stops aborts)
 none_of_processing f s InProcess none stops aborts =
     ends (Some 6) (Some 7) (is_job_so is_stopping (job_of s f.jobs)) (is_job_so is_aborting (job_of s f.jobs)) (is_outside s f.places) (is_between s f) stops aborts
 none_of_processing f s Processed none stops aborts = refl

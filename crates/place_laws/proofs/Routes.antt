@@ -1,5 +1,5 @@
 -- The routes of substrates by numbers are those of the recipes of their process jobs, and the steps that are done are counted along them.
-use Rattle.std.proofs.Common.{◌≡◌, ◌≤◌, ◌<◌, ℕ, zero, suc, ◌+◌, nat_le, nat_lt, Bool, true, false, ◌&&◌, List, [], ◌∷◌, map, length, Option, Some, None, refl, sym, ◌∙◌, ap, subst, arith}
+use Rattle.std.proofs.Common.{◌≡◌, ◌≤◌, ◌<◌, ℕ, zero, suc, ◌+◌, nat_le, nat_lt, true, false, ◌&&◌, List, [], ◌∷◌, map, length, Option, Some, None, refl, sym, ◌∙◌, ap, arith}
 use Rattle.std.proofs.lemmas.List.{length-map}
 use Rattle.std.proofs.lemmas.Bool.{true≢false}
 use Rattle.std.proofs.lemmas.Bool.Decides.{nat_tests}
@@ -32,7 +32,7 @@ step_of zero [] = refl
 step_of (suc k) [] = refl
 step_of k (set ∷ sets) = step_listed k (set ∷ sets)
 
-pub step_same : (k : ℕ) (o : Option Recipe) → law.step_at k (steps_in o) ≡ chamber_list (step_at k (route_of o))
+step_same : (k : ℕ) (o : Option Recipe) → law.step_at k (steps_in o) ≡ chamber_list (step_at k (route_of o))
 step_same k o = step_of k (route_of o)
 
 -- a route has a step
@@ -48,15 +48,12 @@ length_of : (sets : List ℕ) → 0 < length sets → length (some_steps (map ch
 length_of [] some = absurd (omega (arith, some))
 length_of (set ∷ sets) some = ap suc (length-map sets chamber_list)
 
-pub length_same : (o : Option Recipe) → 0 < length (route_of o) → length (steps_in o) ≡ length (route_of o)
-length_same o some = length_of (route_of o) some
-
 -- a second or a later one is there where the recipe has it
 more_of : (k : ℕ) (sets : List ℕ) → nat_lt (k + 1) (length (some_steps (map chamber_list sets))) ≡ nat_lt (k + 1) (length sets)
 more_of k [] = grind (arith, nat_tests)
 more_of k (set ∷ sets) = ap (λ (i : ℕ). nat_lt (k + 1) i) (length_of (set ∷ sets) (omega arith))
 
-pub more_same : (k : ℕ) (o : Option Recipe) → nat_lt (k + 1) (length (steps_in o)) ≡ nat_lt (k + 1) (length (route_of o))
+more_same : (k : ℕ) (o : Option Recipe) → nat_lt (k + 1) (length (steps_in o)) ≡ nat_lt (k + 1) (length (route_of o))
 more_same k o = more_of k (route_of o)
 
 -- ---- the route of a substrate
@@ -88,7 +85,7 @@ module _ (f : ToolFloor) (n : ℕ) (s : Substrate) (found : substrate_numbered n
     route_there = ap (λ (o : Option ProcessJob). route_of (recipe_named (recipe_of o) f.jobs.process.recipes)) its
 
     -- its next step
-    pub next_is : next_step n (picture f) ≡ chamber_list (step_at s.steps (route_for s f.jobs))
+    next_is : next_step n (picture f) ≡ chamber_list (step_at s.steps (route_for s f.jobs))
     next_is =
         ap (λ (i : ℕ). law.step_at i ((picture f).jobs.route_of n)) steps_is
         ∙ ap (law.step_at s.steps) route_is

@@ -63,7 +63,7 @@ module _ (f : ToolFloor) (m : ℕ) (c : ToolCommand) (fetched : Bool) (here : mo
   abbrev pub behind_done : List Substrate → ToolFloor
   behind_done ss = with_module m (module_behind 7) (record f { substrates = ss })
 
-  -- no row changes the modules and the places with it
+  -- what it does to substrates leaves the modules and the places as they are
   stepped_unnamed : (n : ℕ) (o : Option ToolTask) → IsUnnamed n (picture (with_module m (module_behind 7) f)) → IsUnnamed n (picture (with_module m (module_behind 7) (stepped_by o f)))
   stepped_unnamed n None unnamed = unnamed
   stepped_unnamed n (Some (task.Pick sub from)) unnamed = unnamed
@@ -78,6 +78,7 @@ module _ (f : ToolFloor) (m : ℕ) (c : ToolCommand) (fetched : Bool) (here : mo
       (w.0, w.1, stepped_unnamed w.0 (open_task (module_at m f.modules)) w.2)
 
   module _ (sub recipe : List ℕ) (q : c.task ≡ task.Process sub recipe) (n : ℕ) (names : number_named sub f.places ≡ Some n) where
+    -- what it does
     done_fires : floor_fired (firing 16 m 7) f ≡ behind_done (stepped_numbered (Some n) f)
     done_fires =
         ap (λ (o : Option ToolModule). with_module m (module_behind 7) (stepped_by (open_task o) f)) here

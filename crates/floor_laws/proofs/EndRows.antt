@@ -102,15 +102,15 @@ module _ (f : ToolFloor) (n : ℕ) (sound : Sound f) (s : Substrate) (known : su
 -- ---- rows 6 and 7, of one that is outside
 
 -- they start where it isn't finished
-abbrev is_begun_or_not : Processing → Bool
-is_begun_or_not p = is_among processing_number (processing.NeedsProcessing ∷ processing.InProcess ∷ []) p
+abbrev is_unfinished : Processing → Bool
+is_unfinished p = is_among processing_number (processing.NeedsProcessing ∷ processing.InProcess ∷ []) p
 
 -- where it ends behind a row that goes from both states to one
-goes_on_to : (row state : ℕ) → processing_number (after processing_number processing_table row processing.NeedsProcessing) ≡ state → processing_number (after processing_number processing_table row processing.InProcess) ≡ state
-    → (p : Processing) → is_begun_or_not p ≡ true → processing_number (after processing_number processing_table row p) ≡ state
-goes_on_to row state needing running processing.NeedsProcessing e = needing
-goes_on_to row state needing running processing.InProcess e = running
-goes_on_to row state needing running _ e = absurd (cc)
+goes_from_both : (row state : ℕ) → processing_number (after processing_number processing_table row processing.NeedsProcessing) ≡ state → processing_number (after processing_number processing_table row processing.InProcess) ≡ state
+    → (p : Processing) → is_unfinished p ≡ true → processing_number (after processing_number processing_table row p) ≡ state
+goes_from_both row state needing running processing.NeedsProcessing e = needing
+goes_from_both row state needing running processing.InProcess e = running
+goes_from_both row state needing running _ e = absurd (cc)
 
 module _ (f : ToolFloor) (n : ℕ) (sound : Sound f) (s : Substrate) (known : substrate_numbered n f.substrates ≡ Some s) where
   -- one that is outside has no place in a slot
@@ -139,7 +139,7 @@ module _ (f : ToolFloor) (n : ℕ) (sound : Sound f) (s : Substrate) (known : su
 
   -- Where one of them starts none does: row 2, which is the lesser, would start where it NEEDS PROCESSING, and IN PROCESS it is between two
   -- steps.
-  none_processes : (p : Processing) → s.states.processing ≡ p → is_begun_or_not p ≡ true → is_between s f ≡ true → floor_starts (firing 13 n 2) f ≡ false → list_any (processes s.sub) f.modules ≡ false
+  none_processes : (p : Processing) → s.states.processing ≡ p → is_unfinished p ≡ true → is_between s f ≡ true → floor_starts (firing 13 n 2) f ≡ false → list_any (processes s.sub) f.modules ≡ false
   none_processes processing.NeedsProcessing q among between e =
       sym (ap (λ (o : Option Substrate). substrate_starts processing_number processing_table (λ s. s.processing) 2 o f) known ∙ ap (λ (p : Processing). may_fire processing_number (λ want. substrate_wants want s f) processing_table 2 p) q) ∙ e
   none_processes processing.InProcess q among between e =
@@ -148,12 +148,12 @@ module _ (f : ToolFloor) (n : ℕ) (sound : Sound f) (s : Substrate) (known : su
 
   -- so each of them keeps what holds
   stops : (row state : ℕ) (test : JobState → Bool) → (row == 3) ≡ false → processing_number (after processing_number processing_table row processing.NeedsProcessing) ≡ state → processing_number (after processing_number processing_table row processing.InProcess) ≡ state
-      → is_finished state ≡ true → (is_begun_or_not s.states.processing && is_outside_of test s f) ≡ true → floor_starts (firing 13 n 2) f ≡ false → Sound (with_moved 13 row n f)
+      → is_finished state ≡ true → (is_unfinished s.states.processing && is_outside_of test s f) ≡ true → floor_starts (firing 13 n 2) f ≡ false → Sound (with_moved 13 row n f)
   stops row state test other needing running finished starts none =
-      let w = and_parts (is_begun_or_not s.states.processing) (is_outside_of test s f) starts in
+      let w = and_parts (is_unfinished s.states.processing) (is_outside_of test s f) starts in
       let u = and_parts (is_outside s f.places && is_job_so test (job_of s f.jobs)) (is_between s f) w.1 in
       let out = and_parts (is_outside s f.places) (is_job_so test (job_of s f.jobs)) u.0 in
-      ends row state other (goes_on_to row state needing running s.states.processing w.0) finished out.0 (none_processes s.states.processing refl w.0 u.1 none)
+      ends row state other (goes_from_both row state needing running s.states.processing w.0) finished out.0 (none_processes s.states.processing refl w.0 u.1 none)
 
 -- Row 1 in any state; the others where they start: 6 and 7 where row 2, which is the lesser, doesn't.
 pub processing_sound : (f : ToolFloor) (n row : ℕ) → floor_starts (firing 13 n row) f ≡ true → is_one_of (1 ∷ 2 ∷ 5 ∷ 6 ∷ 7 ∷ []) row ≡ true

@@ -15,7 +15,7 @@ use Rattle.control_job.specs.declared.job.ControlJob.{ControlJob}
 use Rattle.control_job.specs.declared.record.ControlState.{ControlState}
 use Rattle.control_job.specs.declared.record.ControlState.TheVariants as control
 use Rattle.control_job.specs.declared.record.Ending.TheVariants.{No}
-use Rattle.substrate.specs.declared.record.Processing.TheVariants.{InProcess}
+use Rattle.substrate.specs.declared.record.Processing.TheVariants.{InProcess, Processed}
 use Rattle.floor_model.specs.declared.tracked.Substrate.{Substrate}
 use Rattle.floor_model.specs.Floor.{ToolFloor, change_numbered}
 use Rattle.worked_floors.specs.Worked.{wafer, recipes, processing_is, steps_are, has_open, in_slot, aligned_at}

@@ -31,7 +31,7 @@ pub fn a_lot_of_one_substrate_ends_at_the_eighth_done()
 /// By a route of two steps: Done of the first Process ends nothing, the substrate stays IN PROCESS with one step done, and the robot is
 /// given a Pick of it. Behind the Place in the chamber of the second step that is given a Process, at whose Done the substrate is PROCESSED.
 pub fn a_substrate_goes_by_two_steps()
-    ensures first { starting (done 3) (by_two_steps (in_job working)) ≡ firing 16 3 7 ∷ [] }
+    ensures first { starting (done 3 (by_two_steps (in_job working))) (by_two_steps (in_job working)) ≡ firing 16 3 7 ∷ [] }
     ensures picked { firings (done 3) (by_two_steps (in_job working)) ≡ firing 16 3 7 ∷ firing 16 1 2 ∷ [] }
     ensures between { behind (done 3) (by_two_steps (in_job working)) ≡ by_two_steps (in_job (is_given 1 7 (task.Pick wafer (Chamber 1)) (between_at (Chamber 1)))) }
     ensures placed { firings (done 1) (by_two_steps (in_job going_on)) ≡ firing 16 1 5 ∷ firing 11 27 2 ∷ firing 11 29 1 ∷ firing 16 4 4 ∷ [] }

@@ -16,7 +16,7 @@ use Rattle.gem_model.proofs.EachFloor.{EachOnFloor, run_holds}
 use Rattle.history_laws.proofs.Placed.{Rests, run_at}
 
 -- what the tool has for its process jobs stays
-equipped_each : EachOnFloor Equipped
+pub equipped_each : EachOnFloor Equipped
 equipped_each = record {
   row = λ x f starts has. row_equipped x f has;
   fetched = λ number f has. fetched_equipped number f has;

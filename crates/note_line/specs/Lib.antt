@@ -4,6 +4,7 @@ pub mod Left
 pub mod Order
 pub mod Fates
 pub mod Limits
+pub mod Opened
 pub mod Kept
 pub mod Worked
 pub mod Counts

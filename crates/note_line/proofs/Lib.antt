@@ -1,5 +1,7 @@
 pub mod Lists
 pub mod Numbers
+pub mod Places
+pub mod Ordering
 pub mod Moves
 pub mod Rows
 pub mod Keeps
@@ -11,5 +13,6 @@ pub mod Short
 pub mod Opens
 pub mod Stays
 pub mod Sendings
+pub mod LeastSending
 mod Counting
 mod CountedStanding

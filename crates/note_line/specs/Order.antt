@@ -1,5 +1,5 @@
 -- The order of the notes in the line (this tool's profile, notes).
-use Rattle.std.specs.Prelude.{◌≡◌, ◌<◌, List, [], ◌∷◌, ◌++◌}
+use Rattle.std.specs.Prelude.{◌≡◌, ◌<◌, ◌≤◌, List, [], ◌∷◌, ◌++◌}
 use Rattle.std.specs.List.{AllByRecursion}
 use Rattle.spool.specs.declared.note.Note.{Note}
 use Rattle.note_line.specs.Line.{Line}
@@ -16,6 +16,10 @@ Less x y = x.number < y.number
 -- of one kind, the first note has the lesser number
 abbrev pub Before : Note → Note → Type 0
 Before x y = x.kind ≡ y.kind → Less x y
+
+-- of one kind, the second note is not below the first
+abbrev pub NotBelow : Note → Note → Type 0
+NotBelow x y = x.kind ≡ y.kind → x.number ≤ y.number
 
 -- each of the first notes is so to each of the second ones
 abbrev pub Between : (Note → Note → Type 0) → List Note → List Note → Type 0

@@ -15,7 +15,7 @@
 --               |                        spool    +---------+       14               |
 --               +-------------------------------> | DROPPED | <----------------------+
 --                                                 +---------+
-use Rattle.std.specs.Prelude.{ℕ, Bool, true, false, not, ◌&&◌, ◌||◌, ◌==◌, nat_lt, List, [], ◌∷◌, length, Option, Some, None, option_map, find, is_some}
+use Rattle.std.specs.Prelude.{ℕ, Bool, true, false, not, ◌&&◌, ◌||◌, ◌==◌, nat_lt, if◌then◌else◌, List, [], ◌∷◌, length, take, Option, Some, None, option_map, find, is_some}
 use Rattle.spool.specs.declared.note.Note.{Note}
 use Rattle.spool.specs.Spool.{is_inactive, is_active, is_no_output, is_transmit, is_purge, has_note}
 use Rattle.spool.specs.Table.{spool_starts}
@@ -127,6 +127,10 @@ least_row a l = find (λ r. r.is_automatic && r.when a 0 l) line_table
 -- its number
 abbrev pub least : Around → Line → Option ℕ
 least a l = option_map (λ (r : Row). r.number) (least_row a l)
+
+-- the note that a row sends, if it sends one: 12 the oldest spooled one, and 13 the head
+abbrev pub sends : ℕ → Line → List Note
+sends number l = if number == 12 then take 1 l.spool.notes else (if number == 13 then take 1 l.waiting else [])
 
 -- a row, where there is one, starts
 abbrev pub starts_at : Option Row → Around → ℕ → Line → Bool

@@ -199,3 +199,10 @@ counted_answer number l n some is = record { valid = (answered-keeps number l is
       let more = with_more note.number l.told (open_is_open l at.before at.behind note at.whole is.valid) in
       let count = is.count in
       omega (arith, more, count)
+
+-- where the note of a number isn't open, nothing is answered
+pub none_answered : (number : ℕ) (l : Line) → has_open number l ≡ false → answered number l ≡ l
+none_answered number l none = of (find (is_number number) l.opened) none where
+  of : (one : Option Note) → is_some one ≡ false → with_one (fated Answered) number one l ≡ l
+  of None e = refl
+  of (Some note) e = absurd (cc)

@@ -12,6 +12,7 @@ pub mod Standing
 pub mod Short
 pub mod Opens
 pub mod Stays
+mod Finding
 pub mod Sendings
 pub mod LeastSending
 mod Counting

@@ -107,3 +107,11 @@ least-sends a l number e = of (least-opens a l number e) where
   of (opens_none is other another) = is ∙ sym (ap (λ (notes : List Note). l.opened ++ notes) (no_row other another) ∙ append-nil l.opened)
   of (opens_oldest is talks may at) = at ∙ ap (λ (n : ℕ). l.opened ++ sends n l) (sym is)
   of (opens_head is talks may at) = at ∙ ap (λ (n : ℕ). l.opened ++ sends n l) (sym is)
+
+-- where row 13 is the least, one more may be open
+pub head-may_open : (a : Around) (l : Line) → least a l ≡ Some 13 → may_open l ≡ true
+head-may_open a l e = of (least-opens a l 13 e) where
+  of : Opens a l (row_effect a 13 0 l) 13 → may_open l ≡ true
+  of (opens_none is other another) = absurd (true≢false another)
+  of (opens_oldest is talks may at) = may
+  of (opens_head is talks may at) = may

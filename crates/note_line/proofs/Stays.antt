@@ -1,5 +1,5 @@
 -- A line that is kept stays so.
-use Rattle.std.proofs.Common.{◌≡◌, ℕ, ◌≤◌, true, false, List, [], ◌∷◌, ◌++◌, length, find, Option, Some, None, IfSome, is_some, Bor, slice_get, slice_index_or, nat_lt, refl, subst}
+use Rattle.std.proofs.Common.{◌≡◌, ℕ, ◌≤◌, true, false, List, [], ◌∷◌, ◌++◌, length, find, Option, Some, None, IfSome, is_some, Bor, zero, suc, slice_get, option_copied, slice_index_or, nat_lt, refl, subst}
 use Rattle.std.proofs.lemmas.Bool.{true≢false}
 use Rattle.std.specs.List.{AllByRecursion}
 use Rattle.spool.specs.declared.note.Note.{Note}
@@ -10,7 +10,7 @@ use Rattle.note_line.specs.declared.fate.Fate.TheVariants.{Spooled, Dropped}
 use Rattle.note_line.specs.declared.fate.DropCause.TheVariants.{NoSpool, Purged}
 use Rattle.note_line.specs.Kept.{KeptLine}
 use Rattle.note_line.specs.Limits.{most_text, IsShort, AreShort}
-use Rattle.note_line.proofs.Lists.{all_second}
+use Rattle.note_line.proofs.Lists.{all_first, all_second}
 use Rattle.note_line.proofs.Rows.{Goes}
 
 pub stays : (g h : Line) → Goes g h → KeptLine g → KeptLine h
@@ -62,3 +62,13 @@ head-short l (Some note) short some e = of l.waiting (all_second IsShort l.spool
   of : (notes : List Note) → AllByRecursion IsShort notes → true ≡ nat_lt 0 (length notes) → note.now ≡ slice_index_or notes 0 note.now → length note.now.text ≤ most_text
   of [] are some f = absurd (true≢false some)
   of (first ∷ notes) are some f = rw f are.0
+
+-- ---- the text of an open one
+
+pub open-short : (l : Line) (place : ℕ) (one : Option (Bor Note)) → AreShort l → option_copied one ≡ slice_get l.opened place → IfSome one (λ note. length note.now.text ≤ most_text)
+open-short l place None short e = tt
+open-short l place (Some note) short e = of l.opened place (all_first IsShort l.opened (l.spool.notes ++ l.waiting) short) e where
+  of : (notes : List Note) (place : ℕ) → AllByRecursion IsShort notes → Some note.now ≡ slice_get notes place → length note.now.text ≤ most_text
+  of [] place are f = absurd (cc)
+  of (first ∷ notes) zero are f = let same : note.now ≡ first = cc in rw same are.0
+  of (first ∷ notes) (suc place) are f = of notes place are.1 f

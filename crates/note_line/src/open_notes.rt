@@ -110,7 +110,9 @@ impl OpenNotes {
         ensures after { IfSome result (λ note. self.new ≡ record self.old { notes = without number self.old.notes }) }
         ensures none { IfNone result (self.new ≡ self.old) }
     {
-        let place = self.place_of(number)?;
+        let Some(place) = self.place_of(number) else {
+            return None;
+        };
         Some(self.notes.remove(place))
     }
 }

@@ -34,7 +34,7 @@ pub struct SpoolStreams {
 /// which the host may change.
 #[derive(Clone, Copy)]
 pub struct Config {
-    /// The version of the configuration's keys, 1.
+    /// The version of the configuration's keys, 1 or 2.
     pub version: u8,
     /// The session id of the tool's messages, at most 32,767.
     pub device: u16,
@@ -78,8 +78,10 @@ pub struct Config {
     /// The first moment, in hundredths of a second since the beginning of the year 2000, at most 25,245,561,599,999,
     /// the last of the year 9999.
     pub start_moment: Moment,
-    /// The recipes by which the chambers process, 1 to 32. The route of each has one step.
+    /// The recipes by which the chambers process, 1 to 32. The route of each has one to six steps; one in version 1.
     pub recipes: Recipes,
     /// The port of TCP on which a tool that serves links listens, at least 1 (SEMI E37, connection).
     pub tcp_port: u16,
+    /// How many notes may be open at once, 1 to 8; 1 in version 1.
+    pub window: u8,
 }

@@ -5,7 +5,7 @@ use Rattle.toml.specs.View.{table_view}
 use Rattle.tool_tasks.specs.declared.recipes.Recipe.{Recipe}
 use Rattle.configuration.specs.declared.fault.ConfigFault.{ConfigFault}
 use Rattle.configuration.specs.Recipes.{recipe_for_all}
-use Rattle.configuration.specs.Rules.{rules, most_chambers, most_ports, said_at, taken, broken_by, Noted, number, recipes, text}
+use Rattle.configuration.specs.Rules.{rules, last_rules, most_chambers, most_ports, said_at, taken, broken_by, Noted, number, recipes, text}
 use Rattle.configuration.proofs.reader.Reader.config.Goals as goal
 
 -- what is noted behind one row more
@@ -33,7 +33,7 @@ text_taken : (default same taken_text key : List ℕ) (ms : Members) → default
 text_taken default same taken_text key ms e t = rw (← e) t
 
 pub returns-clause-given : goal.returns-clause-given
-unfolding rules
+unfolding rules, last_rules
 returns-clause-given c =
     let ms = table_view c.args.self.now.table.now in
     let version = c.number-version.ensures.value in
@@ -83,7 +83,7 @@ returns-clause-given c =
                                               rs,
                                               (
                                                 c.number-tcp_port.ensures.value,
-                                                tt,
+                                                (c.number-window.ensures.value, tt),
                                               ),
                                             ),
                                           ),
@@ -140,3 +140,7 @@ returns-clause-broken c =
     (after c.number-device.ensures.broken
     (after c.number-version.ensures.broken
     refl))))))))))))))))))))))
+
+pub returns-clause-last : goal.returns-clause-last
+unfolding last_rules
+returns-clause-last c = after c.number-window.ensures.broken refl

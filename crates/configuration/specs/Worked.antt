@@ -35,4 +35,4 @@ abbrev pub window_of : ℕ → ℕ → Members
 window_of version window = member (codes "version") (number version) (of_key (codes "window") (number window))
 
 abbrev pub with_unknown : Members → Members
-with_unknown ms = member (codes "zone") (number 1) ms
+with_unknown ms = member (codes "another") (number 1) ms

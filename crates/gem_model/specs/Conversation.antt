@@ -39,6 +39,7 @@ worked_config = record {
   start_moment = record { 0 = 0 };
   recipes = record { name = codes "R1"; route = chambers_to 2 ∷ [] } ∷ [];
   tcp_port = 5000;
+  window = 1;
 }
 
 -- what the tool prints for a text of lines, under a configuration (this tool's profile, input and output lines)

@@ -13,6 +13,7 @@ pub mod Short
 pub mod Opens
 pub mod Stays
 mod Finding
+pub mod Failing
 pub mod Sendings
 pub mod LeastSending
 mod Counting

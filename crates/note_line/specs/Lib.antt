@@ -1,5 +1,6 @@
 pub mod Line
 pub mod Table3
+pub mod Failing
 pub mod Left
 pub mod Order
 pub mod Fates

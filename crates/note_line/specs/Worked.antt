@@ -1,6 +1,5 @@
 -- Lines for worked rows.
 use Rattle.std.specs.Prelude.{ℕ, zero, suc, true, false, List, [], ◌∷◌, map, Option, Some, None}
-use Rattle.spool.specs.declared.note.Note.{Note}
 use Rattle.spool.specs.declared.note.Kind.TheVariants.{Event, Alarm}
 use Rattle.note_line.specs.declared.around.Around.{Around}
 use Rattle.note_line.specs.declared.around.SpooledKinds.{SpooledKinds}
@@ -8,6 +7,7 @@ use Rattle.note_line.specs.declared.fate.Told.{Told}
 use Rattle.note_line.specs.declared.fate.Fate.{Fate}
 use Rattle.note_line.specs.Line.{Line, opening, noted}
 use Rattle.note_line.specs.Table3.{least, row_effect}
+use Rattle.note_line.specs.Failing.{failing, fail_all}
 
 -- ---- what lies around
 
@@ -82,20 +82,20 @@ abbrev pub noted_in_two : ℕ → ℕ → Line
 noted_in_two capacity zero = opening capacity 2 events_alone
 noted_in_two capacity (suc n) = settled 20 talking (event (noted_in_two capacity n))
 
--- the transactions of these notes fail in turn
-abbrev pub fail_all : Around → List ℕ → Line → Line
-fail_all a [] l = l
-fail_all a (number ∷ numbers) l = fail_all a numbers (row_effect a 14 number l)
+-- so many events, of which up to so many may be spooled and eight may be open at once; none was answered
+abbrev pub noted_in_eight : ℕ → ℕ → Line
+noted_in_eight capacity zero = opening capacity 8 events_alone
+noted_in_eight capacity (suc n) = settled 20 talking (event (noted_in_eight capacity n))
+
+-- every transaction fails
+abbrev pub all_failed : Around → Line → Line
+all_failed a l = fail_all a (failing l) l
 
 -- the same with a note that is of no spooled kind between the events: an alarm, the second note
 abbrev pub alarm_between : Line
 alarm_between = settled 20 talking (event (settled 20 talking (noted Alarm 31 [] (noted_in_two 3 1))))
 
 -- ---- what is seen
-
--- the numbers of notes
-abbrev pub numbers : List Note → List ℕ
-numbers notes = map (λ (note : Note). note.number) notes
 
 -- what became of each note, from number 1 on
 abbrev pub fates : Line → List Fate

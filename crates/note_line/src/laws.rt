@@ -8,6 +8,7 @@ ghost use Rattle.note_line.specs.declared.around.SpooledKinds.{SpooledKinds};
 ghost use Rattle.note_line.specs.Line.{Line, opening, next, standing, noted, answered, with_kinds, fate_of};
 ghost use Rattle.note_line.specs.Order.{NotBelow, Between};
 ghost use Rattle.note_line.specs.Table3.{least, line_starts, is_direct, row_effect, sends};
+ghost use Rattle.note_line.specs.Failing.{failing, fail_all};
 ghost use Rattle.note_line.specs.Left.{left, told_weight};
 ghost use Rattle.note_line.specs.Fates.{LineValid, KeepsFates};
 ghost use Rattle.note_line.specs.Limits.{most_text};
@@ -76,6 +77,11 @@ pub fn a_sending_is_of_the_least()
 pub fn sendings_never_go_back()
     ensures { (g h : Line) (earlier later : Note) → LineValid g → LineValid h → g.window ≡ 1 → KeepsFates g h
         → g.opened ≡ earlier ∷ [] → h.opened ≡ later ∷ [] → earlier.kind ≡ later.kind → earlier.number ≤ later.number }
+{}
+
+/// Where every transaction fails, in the order that is told, no note is open behind it.
+pub fn no_note_is_open_where_all_failed()
+    ensures { (a : Around) (l : Line) → (fail_all a (failing l) l).opened ≡ [] }
 {}
 
 /// The limit of the code is that of the definitions.

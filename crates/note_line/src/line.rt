@@ -7,6 +7,7 @@ ghost use Rattle.note_line.specs.Line.{opening, next, is_number, noted, restated
 ghost use Rattle.note_line.specs.Table3.{least, none_waits, rests, head_in_kind, head_not_in_kind, head_may_go, has_open, may_open};
 ghost use Rattle.note_line.specs.declared.around.Around.{Around};
 ghost use Rattle.note_line.specs.Fates.{LineValid};
+ghost use Rattle.note_line.specs.Failing.{failing};
 ghost use Rattle.note_line.specs.Limits.{most_open, most_text};
 
 use crate::around::{Around, SpooledKinds};
@@ -200,6 +201,13 @@ impl NoteLine {
         ensures { result ≡ has_open number self.now }
     {
         self.opened.numbered(number).is_some()
+    }
+
+    /// The greatest number of an open note, which is the first to fail where every transaction does.
+    pub fn greatest_open(&self) -> Option<u64>
+        ensures { result ≡ slice_get (failing self.now) 0 }
+    {
+        self.opened.greatest()
     }
 
     /// Whether one more note may be open.

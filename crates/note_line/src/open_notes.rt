@@ -2,6 +2,7 @@
 
 ghost use Rattle.std.specs.Prelude.{◌≡◌, ◌<◌, ◌-◌, [], ◌∷◌, ◌++◌, None, Some, length, find, slice_get, option_copied, nat_lt, take, drop, suc, IfOk, IfSome, IfNone};
 ghost use Rattle.note_line.specs.Line.{is_number, without};
+ghost use Rattle.note_line.specs.Failing.{from_greatest, numbers, greater};
 
 use spool::Note;
 use std::alloc::{AllocError, Global};
@@ -96,6 +97,19 @@ impl OpenNotes {
         }
     }
 
+    /// The greatest number of an open note.
+    pub fn greatest(&self) -> Option<u64>
+        ensures { result ≡ slice_get (from_greatest (numbers self.now.notes)) 0 }
+    {
+        let mut greatest = None;
+        let mut place = self.notes.len();
+        'places: while place > 0 {
+            place -= 1;
+            greatest = Some(greater(self.at(place).number, greatest));
+        }
+        greatest
+    }
+
     /// A note is open, behind the others. Its condition is that one more may be.
     pub fn push(&mut self, note: Note)
         requires { length self.old.notes < self.old.window }
@@ -114,5 +128,15 @@ impl OpenNotes {
             return None;
         };
         Some(self.notes.remove(place))
+    }
+}
+
+// The greater one of a number and another, if there is one.
+fn greater(number: u64, other: Option<u64>) -> u64
+    ensures { result ≡ greater number other }
+{
+    match other {
+        Some(other) if other >= number => other,
+        _ => number,
     }
 }

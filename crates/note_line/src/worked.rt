@@ -8,7 +8,8 @@ ghost use Rattle.note_line.specs.declared.fate.Fate.TheVariants.{Answered, Open,
 ghost use Rattle.note_line.specs.declared.fate.DropCause.TheVariants.{NoSpool, Full, Purged};
 ghost use Rattle.note_line.specs.Line.{opening, next, noted, answered, fate_of};
 ghost use Rattle.note_line.specs.Table3.{least, line_starts, row_effect};
-ghost use Rattle.note_line.specs.Worked.{talking, silent, overwriting, two_at_most, no_kinds, one, two, event, five, rows, settled, kept, first_sent, noted_in_two, fail_all, alarm_between, numbers, fates};
+ghost use Rattle.note_line.specs.Failing.{failing, fail_all, numbers};
+ghost use Rattle.note_line.specs.Worked.{talking, silent, overwriting, two_at_most, no_kinds, one, two, event, five, rows, settled, kept, first_sent, noted_in_two, noted_in_eight, all_failed, alarm_between, fates};
 
 /// A note waits, is sent where the tool communicates, and is answered.
 pub fn a_note_is_sent_and_answered()
@@ -175,4 +176,18 @@ pub fn a_kind_that_is_not_spooled_takes_its_place_in_the_window()
     ensures both { numbers alarm_between.opened ≡ 1 ∷ 2 ∷ [] }
     ensures third_waits { numbers alarm_between.waiting ≡ 3 ∷ [] }
     ensures fates { fates (fail_all talking (2 ∷ 1 ∷ []) alarm_between) ≡ Spooled ∷ Dropped NoSpool ∷ Waiting ∷ [] }
+{}
+
+/// Where every transaction fails, the open notes fail from the greatest number down, whatever the order of their sendings; a spool of
+/// any size then holds the same as if they had failed in another order.
+pub fn open_notes_fail_from_the_greatest_down()
+    ensures order { failing (noted_in_eight 8 8) ≡ 8 ∷ 7 ∷ 6 ∷ 5 ∷ 4 ∷ 3 ∷ 2 ∷ 1 ∷ [] }
+    ensures none_open { numbers (all_failed talking (noted_in_eight 8 8)).opened ≡ [] }
+    ensures all_spooled { numbers (all_failed talking (noted_in_eight 8 8)).spool.notes ≡ 1 ∷ 2 ∷ 3 ∷ 4 ∷ 5 ∷ 6 ∷ 7 ∷ 8 ∷ [] }
+    ensures three_kept { numbers (all_failed talking (noted_in_eight 3 8)).spool.notes ≡ 1 ∷ 2 ∷ 3 ∷ [] }
+    ensures three_overwritten { numbers (all_failed (overwriting talking) (noted_in_eight 3 8)).spool.notes ≡ 6 ∷ 7 ∷ 8 ∷ [] }
+    ensures one_kept { numbers (all_failed talking (noted_in_eight 1 8)).spool.notes ≡ 1 ∷ [] }
+    ensures one_overwritten { numbers (all_failed (overwriting talking) (noted_in_eight 1 8)).spool.notes ≡ 8 ∷ [] }
+    ensures sent_again_first { failing (settled 20 talking (row_effect talking 4 0 (settled 20 talking (fail_all talking (1 ∷ []) (noted_in_two 3 2))))) ≡ 2 ∷ 1 ∷ [] }
+    ensures order_of_sending { numbers (settled 20 talking (row_effect talking 4 0 (settled 20 talking (fail_all talking (1 ∷ []) (noted_in_two 3 2))))).opened ≡ 2 ∷ 1 ∷ [] }
 {}

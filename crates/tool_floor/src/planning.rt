@@ -42,7 +42,8 @@ fn chambers_of(recipe: Option<Recipe>, step: u8) -> u8
 fn route_for(s: &Substrate, jobs: &Jobs) -> Route
     ensures { result ≡ route_for s.now jobs.now }
 {
-    route_of(jobs.process().recipe(recipe_of(jobs.process().numbered(s.job))))
+    let known = jobs.process();
+    route_of(known.recipe(recipe_of(known.numbered(s.job))))
 }
 
 // Whether a step that is done isn't the last of a substrate's route.

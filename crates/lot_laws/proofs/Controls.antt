@@ -17,7 +17,6 @@ use Rattle.control_job.specs.Tables.{state_number, states_number}
 use Rattle.control_job.specs.Names.{is_in}
 use Rattle.control_job.specs.Jobs.{job_numbered as control_numbered, owns, is_open, fired_at}
 use Rattle.control_job.specs.declared.job.ControlJob.{ControlJob}
-use Rattle.control_job.specs.declared.record.ControlState.TheVariants.{Queued}
 use Rattle.control_job.specs.declared.record.ControlJobRecord.{ControlJobRecord}
 use Rattle.control_job.proofs.Called.{numbered_in}
 use Rattle.tool_jobs.specs.Jobs.{owner}

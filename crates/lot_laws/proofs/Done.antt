@@ -1,5 +1,5 @@
 -- Done of an open command takes one off what is owed, and the control job executes on.
-use Rattle.std.proofs.Common.{◌≡◌, ℕ, ◌==◌, Bool, true, false, if◌then◌else◌, not, ◌&&◌, map, List, Some, refl, sym, ◌∙◌, ap, subst, ◌⊎◌}
+use Rattle.std.proofs.Common.{◌≡◌, ℕ, ◌==◌, Bool, true, false, if◌then◌else◌, not, ◌&&◌, map, List, Some, refl, sym, ◌∙◌, ap}
 use Rattle.std.proofs.lemmas.Bool.{true≢false, and_parts}
 use Rattle.std.proofs.lemmas.Bool.Decides.{Decides-eqb}
 use Rattle.gem_tables.specs.Table.{is_one_of, after}
@@ -8,7 +8,6 @@ use Rattle.substrate.specs.Tables.{processing_number, processing_table}
 use Rattle.substrate.specs.Record.{is_at_source, is_needing}
 use Rattle.substrate.specs.declared.record.Processing.{Processing}
 use Rattle.substrate.specs.declared.record.Processing.TheVariants as processing
-use Rattle.process_job.specs.Jobs.{job_numbered}
 use Rattle.process_job.specs.declared.job.ProcessJob.{ProcessJob}
 use Rattle.tool_jobs.proofs.Rows.{after_meets}
 use Rattle.floor_model.specs.declared.tracked.Substrate.{Substrate}
@@ -23,13 +22,10 @@ use Rattle.floor_moves.specs.Valid.{Valid}
 use Rattle.place_laws.specs.Picture.{picture}
 use Rattle.place_laws.specs.Sound.{Base}
 use Rattle.picture_laws.proofs.Rows.{processing_agrees}
-use Rattle.floor_laws.proofs.JobSight.{none_some, some_same}
-use Rattle.floor_laws.proofs.JobLists.{none_first}
-use Rattle.floor_laws.proofs.JobSays.{member_tells}
 use Rattle.owed_laws.specs.Owed.{owed_to}
 use Rattle.owed_laws.specs.Undisturbed.{Undisturbed}
 use Rattle.owed_laws.proofs.Agreeing.{agree-undisturbed, agree-owed}
-use Rattle.lot_laws.specs.Lot.{is_in_named_slot, Waits, Executes}
+use Rattle.lot_laws.specs.Lot.{is_in_named_slot, Executes}
 use Rattle.lot_laws.proofs.Standing.{joins_tell}
 use Rattle.lot_laws.proofs.Planned.{waits_free}
 use Rattle.lot_laws.proofs.Substrates.{change-executes}

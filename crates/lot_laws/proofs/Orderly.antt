@@ -58,13 +58,13 @@ use Rattle.floor_model.specs.Views.{goes_on, planned}
 use Rattle.floor_model.specs.Wants.{substrate_wants}
 use Rattle.floor_model.specs.Machines.{substrate_ready, substrate_moves, with_moved, floor_starts, floor_fired, floor_least}
 use Rattle.floor_model.proofs.Keeping.{least_starts}
-use Rattle.floor_moves.specs.Floor.{Loc, slot, arm, aligner, is_finished, place, align, idle}
+use Rattle.floor_moves.specs.Floor.{Loc, slot, arm, aligner, is_finished, align}
 use Rattle.floor_moves.specs.Valid.{IsDistinct, PlaceStands}
 use Rattle.place_laws.specs.Picture.{picture, loc_of, place_in, numbered, number_or_none, task_of, of_one}
 use Rattle.place_laws.specs.Sound.{Base, Sound}
 use Rattle.place_laws.proofs.Holding.{found_among, rising_distinct}
 use Rattle.place_laws.proofs.Stays.{NonePresent}
-use Rattle.picture_laws.proofs.Columns.{says_same, found_there, found_else}
+use Rattle.picture_laws.proofs.Columns.{found_else}
 use Rattle.floor_laws.specs.Rows.{is_common, one_listed, listed}
 use Rattle.floor_laws.proofs.EndProcess.{fetched_sound}
 use Rattle.floor_laws.proofs.EndOpen.{command_of, busy_at}

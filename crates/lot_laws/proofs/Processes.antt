@@ -123,7 +123,8 @@ module _ (number : ℕ) (planned : ℕ → List (List ℕ)) (counted : ℕ → B
           job = fires_row row v.job;
           kept = fired_there n row f.jobs.process.kept ∙ ap (option_map (fires_row row)) (subst (λ (m : ℕ). job_numbered m f.jobs.process.kept ≡ Some v.job) ((Decides-eqb v.at n).0 q) v.kept);
           left = v.left;
-          first = first_fired number f x n row ∙ v.first; goes_by = v.goes_by;
+          first = first_fired number f x n row ∙ v.first;
+          goes_by = v.goes_by;
           queued = stays_queued row v.job.states.state two v.queued;
           joins = v.joins;
         }
@@ -259,7 +260,8 @@ module _ (number : ℕ) (planned : ℕ → List (List ℕ)) (counted : ℕ → B
               job = v.job;
               kept = without_else n v.at other f.jobs.process.kept ∙ v.kept;
               left = ended_on number before f.jobs t s e.steers n j v.job.id known (names_differ v.at n f.jobs.process.kept v.job j t.process.apart v.kept known (differs v.at n other)) v.left;
-              first = first_on x v.at v.job v.kept other v.first; goes_by = v.goes_by;
+              first = first_on x v.at v.job v.kept other v.first;
+              goes_by = v.goes_by;
               queued = v.queued;
               joins = ap (can_join v.job f.shop) (freed_same x (free_apart v.job x v.joins)) ∙ v.joins;
             }))

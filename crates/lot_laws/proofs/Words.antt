@@ -1,6 +1,6 @@
 -- A control job stays at work behind each row that a word fires and where jobs are created, and as much is owed; or it is disturbed for
 -- good.
-use Rattle.std.proofs.Common.{◌≡◌, ℕ, ◌==◌, Bool, true, false, not, ◌||◌, List, [], ◌∷◌, Option, Some, None, option_map, refl, sym, ◌∙◌, ap, subst, inl, inr}
+use Rattle.std.proofs.Common.{◌≡◌, ℕ, ◌==◌, Bool, true, false, not, List, [], ◌∷◌, Option, Some, None, option_map, refl, sym, ◌∙◌, ap, subst, inl, inr}
 use Rattle.std.proofs.lemmas.Bool.{true≢false}
 use Rattle.std.proofs.lemmas.Bool.Decides.{Decides-eqb}
 use Rattle.gem_tables.specs.Table.{is_one_of, row_of, found_starts, firing, after}
@@ -22,7 +22,7 @@ use Rattle.control_job.specs.declared.job.ControlJob.{ControlJob}
 use Rattle.control_job.specs.declared.record.ControlJobRecord.{ControlJobRecord}
 use Rattle.records.proofs.Truth.{not_true}
 use Rattle.tool_jobs.specs.Wants.{process_wants, control_wants, is_ending, ends_so}
-use Rattle.tool_jobs.specs.Rows.{ended, process_starts, control_starts, control_fired}
+use Rattle.tool_jobs.specs.Rows.{ended, process_starts, control_starts}
 use Rattle.tool_jobs.specs.Together.{AreTogether}
 use Rattle.tool_jobs.specs.Creating.{with_process, with_control, control_fault}
 use Rattle.tool_jobs.proofs.Rows.{stays_passive, after_meets}

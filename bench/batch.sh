@@ -3,7 +3,7 @@
 # a second, and how many bytes an entry takes, and then the ratios of the times. Then it does the same for batches of 40 and 160 carriers of
 # larger plants, of eight chambers and four ports: over a route of one step that each chamber can do, and over one of six steps.
 #
-# A batch (docs/profile/batch.md): for each carrier of 25 substrates six lines, and 200 commands that are done in a drawn order. All
+# A batch (docs/profile/batch.md): for each carrier of 25 substrates six lines, and 200 commands (of one step) that are done in a drawn order. All
 # events are enabled, and each report is taken and answered, an entry each; so is each command fetched and done.
 #
 # Twice the carriers should take about twice the time: a ratio of at most 2.2 is wanted. The times are processor times, the least of

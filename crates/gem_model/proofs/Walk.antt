@@ -119,11 +119,14 @@ pub record Units (Rest : Event → State → Type 0) (P : State → Type 0) : Ty
 pub record Inner (Rest : Event → State → Type 0) (P : State → Type 0) : Type 1 where
   pub clock : (g : State) (c : Clock) → P g → P (record g { clock = c })
   pub switch : (g : State) (b : Bool) → P g → P (record g { switch_local = b })
-  pub drawn : (g : State) (t : Table) → t.opened ≡ g.transactions.opened → P g → P (record g { transactions = t })
+  -- system bytes are drawn
+  pub drawn : (g : State) → P g → P (draws g)
   pub constants : (g : State) (c : List (ℕ × Val)) → P g → P (record g { constants = c })
   pub reports : (g : State) (r : Reports) → P g → P (record g { reports = r })
   pub alarms : (g : State) (a : List AlarmLine) → P g → P (record g { alarms = a })
-  pub waiting : (g : State) (w : List (List ℕ)) → P g → P (record g { waiting = w })
+  -- a frame that sends no note comes behind those that wait for the writer; the oldest is handed out
+  pub frame : (g : State) (h : Header) (text : List ℕ) → sends_note h ≡ false → P g → P (with_frame (message_bytes h text) g)
+  pub handed : (g : State) (frame : List ℕ) (frames : List (List ℕ)) → g.waiting ≡ frame ∷ frames → P g → P (record g { waiting = frames })
   pub event : (g : State) (e : Option ℕ) (o : Occasion) (online : Bool) → P g → P (record g { line = line_behind e o online g })
   pub alarm : (g : State) (alid : ℕ) → P g → P (record g { line = line_with_alarm alid g })
   pub kinds : (g : State) (k : SpooledKinds) → P g → P (record g { line = with_kinds k g.line })
@@ -135,7 +138,8 @@ pub record Inner (Rest : Event → State → Type 0) (P : State → Type 0) : Ty
   pub row : (g : State) (f : Firing) → IsFree f → row_starts g f ≡ true → P g → P (takes_effect g f)
   pub units : Units Rest P
   pub created : (g : State) (d : Firing) → is_creation d ≡ true → P g → P (fire g d)
-  pub answered : (g : State) (h : Header) (item : Option Data) (test : Open → Bool) (one : Open) → find test g.transactions.opened ≡ Some one → P g → P (closed_by h item (Some one) g)
+  -- a message answers the transaction that has its system bytes, its stream and its function
+  pub answered : (g : State) (h : Header) (item : Option Data) (one : Open) → answered h.system (stream_of h) (function_of h) g.transactions.opened ≡ Some one → P g → P (closed_by h item (Some one) g)
   pub failed : (g : State) (test : Open → Bool) (one : Open) → find test g.transactions.opened ≡ Some one → P g → P (timed_out one g)
   pub disabled : (g : State) → P g → P (fires (operator_rows oper.Disable) g)
 

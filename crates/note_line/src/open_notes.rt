@@ -57,7 +57,7 @@ impl OpenNotes {
         requires { place < length self.now.notes }
         ensures { slice_get self.now.notes place ≡ Some result.now }
     {
-        &self.notes[place]
+        self.notes.get(place).unwrap()
     }
 
     // The place of the open note of a number.
@@ -89,12 +89,7 @@ impl OpenNotes {
     pub fn latest(&self) -> Option<&Note>
         ensures { option_copied result ≡ slice_get self.now.notes (length self.now.notes - 1) }
     {
-        let len = self.notes.len();
-        if len == 0 {
-            None
-        } else {
-            Some(self.at(len - 1))
-        }
+        self.notes.last()
     }
 
     /// The greatest number of an open note.

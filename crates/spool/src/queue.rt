@@ -53,7 +53,8 @@ impl NoteQueue {
 
     /// How many notes there may be.
     pub fn capacity(&self) -> usize
-        ensures { result ≡ self.now.capacity }
+        ensures capacity { result ≡ self.now.capacity }
+        ensures within { length self.now.notes ≤ self.now.capacity }
     {
         self.notes.capacity()
     }

@@ -227,6 +227,7 @@ impl Spool {
     /// A note is put back to its place by number: before the first that has a greater one. Its condition is that the numbers
     /// of the notes rise, and its own is another. Where the spool is full, one of all these is dropped: the one of the least
     /// number with `overwrite`, else the one of the greatest.
+    #[tactic(auto, using(crate::proofs::Lost::lost_is_told))]
     pub fn put_back(&mut self, note: Note, overwrite: bool) -> Pushed
         requires place { may_put_back note.number self.old.notes ≡ true }
         ensures after { self.new ≡ put_back overwrite note self.old }

@@ -1,5 +1,5 @@
 -- Where every transaction fails, none is open behind it.
-use Rattle.std.proofs.Common.{◌≡◌, ℕ, ◌+◌, ◌-◌, ◌≤◌, ◌==◌, Bool, true, false, List, [], ◌∷◌, ◌++◌, drop, Option, Some, None, find, cond, refl, sym, ap, arith, ◌∙◌, if◌then◌else◌}
+use Rattle.std.proofs.Common.{◌≡◌, ℕ, ◌+◌, ◌-◌, ◌≤◌, ◌==◌, Bool, true, false, List, [], ◌∷◌, ◌++◌, drop, Option, Some, None, find, cond, refl, sym, ap, subst, arith, ◌∙◌, if◌then◌else◌}
 use Rattle.std.specs.Prelude.{nat_lt, slice_get}
 use Rattle.std.specs.List.{count_by}
 use Rattle.std.proofs.lemmas.Bool.Decides.{nat_tests}
@@ -80,8 +80,8 @@ without_fewer n number [] = omega arith
 without_fewer n number (one ∷ others) = of (is_number n one) refl (without_fewer n number others) where
   of : (b : Bool) → is_number n one ≡ b → count_by (is_number number) (without n others) ≤ count_by (is_number number) others - one_if (n == number)
       → count_by (is_number number) (if b then others else one ∷ without n others) ≤ count_by (is_number number) (one ∷ others) - one_if (n == number)
-  of true q later = let same = ap one_if (same_test one.number n number q) in omega (arith, same, count-cons number one others)
-  of false q later = omega (arith, later, one_at_most one.number n number q, count-cons number one others, count-cons number one (without n others))
+  of true q later = let same : one_if (is_number number one) ≡ one_if (n == number) = ap one_if (same_test one.number n number q) in omega (arith, same, count-cons number one others)
+  of false q later = let apart : one_if (is_number number one) + one_if (n == number) ≤ 1 = one_at_most one.number n number q in omega (arith, later, apart, count-cons number one others, count-cons number one (without n others))
 
 covers_next : (n : ℕ) (ns : List ℕ) (notes : List Note) → Covers (n ∷ ns) notes → Covers ns (without n notes)
 covers_next n ns notes covers number = let at = covers number in omega (arith, at, without_fewer n number notes, times-cons number n ns)
@@ -96,7 +96,7 @@ none_covers (one ∷ others) covers =
 
 fails_each : (a : Around) (ns : List ℕ) (l : Line) → Covers ns l.opened → (fail_all a ns l).opened ≡ []
 fails_each a [] l covers = none_covers l.opened covers
-fails_each a (number ∷ others) l covers = fails_each a others (fail_open a number l) (rw (fail_opened a number l) (covers_next number others l.opened covers))
+fails_each a (number ∷ others) l covers = fails_each a others (fail_open a number l) (subst (Covers others) (sym (fail_opened a number l)) (covers_next number others l.opened covers))
 
 times_put : (number n : ℕ) (ns : List ℕ) → times number (put_down n ns) ≡ one_if (n == number) + times number ns
 times_put number n [] = times-cons number n []
@@ -109,7 +109,8 @@ covers_all : (notes : List Note) → Covers (from_greatest (numbers notes)) note
 covers_all [] number = omega arith
 covers_all (one ∷ others) number =
     let later = covers_all others number in
-    omega (arith, later, count-cons number one others, times_put number one.number (from_greatest (numbers others)))
+    let put : times number (from_greatest (numbers (one ∷ others))) ≡ one_if (is_number number one) + times number (from_greatest (numbers others)) = times_put number one.number (from_greatest (numbers others)) in
+    omega (arith, later, put, count-cons number one others)
 
 pub none_left : (a : Around) (l : Line) → (fail_all a (failing l) l).opened ≡ []
 none_left a l = fails_each a (failing l) l (covers_all l.opened)

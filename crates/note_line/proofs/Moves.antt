@@ -20,7 +20,7 @@ Recounts test note from to before after = (number : ℕ) → count_by (is_number
 pub data Shifts (note : Note) (before after : List Note) : Type 0 where
   stays : after ≡ before → Shifts note before after
   leaves : (a b : List Note) → before ≡ a ++ note ∷ b → after ≡ a ++ b → Shifts note before after
-  goes : (a b c d : List Note) → before ≡ a ++ note ∷ b → a ++ b ≡ c ++ d → after ≡ c ++ note ∷ d → Shifts note before after
+  elsewhere : (a b c d : List Note) → before ≡ a ++ note ∷ b → a ++ b ≡ c ++ d → after ≡ c ++ note ∷ d → Shifts note before after
 
 -- a note that hasn't ended goes from one fate to another
 pub record Moves (g h : Line) : Type 0 where
@@ -41,7 +41,7 @@ pub record Moves (g h : Line) : Type 0 where
 pub shifts-all : (P : Note → Type 0) (note : Note) (before after : List Note) → Shifts note before after → AllByRecursion P before → AllByRecursion P after
 shifts-all P note before after (stays e) p = subst (AllByRecursion P) (sym e) p
 shifts-all P note before after (leaves a b e f) p = subst (AllByRecursion P) (sym f) (all_without P a b note (subst (AllByRecursion P) e p))
-shifts-all P note before after (goes a b c d e same f) p =
+shifts-all P note before after (elsewhere a b c d e same f) p =
     let stood = subst (AllByRecursion P) e p in
     subst (AllByRecursion P) (sym f) (all_with P c d note (the_one P a b note stood) (subst (AllByRecursion P) same (all_without P a b note stood)))
 

@@ -1,5 +1,5 @@
 -- A note and its place by number among others, and the one that a number finds.
-use Rattle.std.proofs.Common.{◌≡◌, ℕ, ◌+◌, ◌<◌, ◌==◌, Bool, true, false, not, ◌&&◌, List, [], ◌∷◌, ◌++◌, Option, Some, None, find, refl, sym, ap, cond, ◌∙◌, arith}
+use Rattle.std.proofs.Common.{◌≡◌, ℕ, ◌+◌, ◌<◌, ◌==◌, Bool, true, false, not, ◌&&◌, List, [], ◌∷◌, ◌++◌, Option, Some, None, find, refl, sym, ap, cond, subst, ◌∙◌, arith}
 use Rattle.std.specs.Prelude.{nat_lt, if◌then◌else◌}
 use Rattle.std.specs.List.{AllByRecursion, count_by}
 use Rattle.std.proofs.lemmas.Bool.{and_from}
@@ -43,7 +43,9 @@ placed-between note (one ∷ others) = of (nat_lt note.number one.number) refl (
   }
 
 pub all_placed : (P : Note → Type 0) (note : Note) (notes : List Note) → P note → AllByRecursion P notes → AllByRecursion P (placed note notes)
-all_placed P note notes here all = let at = placed-between note notes in rw at.is (all_with P at.before at.behind note here (rw at.whole at all))
+all_placed P note notes here all =
+    let place = placed-between note notes in
+    subst (AllByRecursion P) (sym place.is) (all_with P place.before place.behind note here (subst (AllByRecursion P) place.whole all))
 
 -- among notes whose numbers rise, of which none is its own, they rise with it too
 pub pairs_placed : (note : Note) (notes : List Note) → AllByRecursion (IsOther note.number) notes → Pairwise Less notes → Pairwise Less (placed note notes)
@@ -82,10 +84,10 @@ count-within number (y ∷ a) b note = omega (arith, count-within number a b not
 
 pub count-placed : (number : ℕ) (note : Note) (notes : List Note) → count_by (is_number number) (placed note notes) ≡ one_if (is_number number note) + count_by (is_number number) notes
 count-placed number note notes =
-    let at = placed-between note notes in
-    ap (λ (ns : List Note). count_by (is_number number) ns) at.is
-    ∙ count-within number at.before at.behind note
-    ∙ ap (λ (ns : List Note). one_if (is_number number note) + count_by (is_number number) ns) (sym at.whole)
+    let place = placed-between note notes in
+    ap (λ (ns : List Note). count_by (is_number number) ns) place.is
+    ∙ count-within number place.before place.behind note
+    ∙ ap (λ (ns : List Note). one_if (is_number number note) + count_by (is_number number) ns) (sym place.whole)
 
 -- a number that isn't counted is that of none
 pub none_counted : (number : ℕ) (notes : List Note) → count_by (is_number number) notes ≡ 0 → AllByRecursion (IsOther number) notes
@@ -119,11 +121,11 @@ found-between number (one ∷ notes) note e = of (is_number number one) refl e (
         same = ap (is_number number) (sym it) ∙ q;
       }
   of false q f later =
-      let at = later f in
+      let found = later f in
       record {
-        before = one ∷ at.before;
-        behind = at.behind;
-        whole = ap (λ (ns : List Note). one ∷ ns) at.whole;
-        others = ap (λ (c : Bool). if c then notes else one ∷ without number notes) q ∙ ap (λ (ns : List Note). one ∷ ns) at.others;
-        same = at.same;
+        before = one ∷ found.before;
+        behind = found.behind;
+        whole = ap (λ (ns : List Note). one ∷ ns) found.whole;
+        others = ap (λ (c : Bool). if c then notes else one ∷ without number notes) q ∙ ap (λ (ns : List Note). one ∷ ns) found.others;
+        same = found.same;
       }

@@ -27,7 +27,7 @@ use Rattle.note_line.specs.Limits.{IsShort, AreShort}
 use Rattle.note_line.specs.Fates.{is_waiting, is_spooled, is_open, is_ended, tells, passes, has_fate, one_if, IsTold, LineValid, KeepsFates}
 use Rattle.note_line.proofs.Lists.{all_joined, all_first, all_second, all_mapped, Loses, loses_none, loses_one, fitted-loses}
 use Rattle.note_line.proofs.Numbers.{told_of-more, told_of-last, has_fate-more, fate-given}
-use Rattle.note_line.proofs.Moves.{stays, leaves, goes, Moves, moves-valid, moves-fates, shifts-all}
+use Rattle.note_line.proofs.Moves.{stays, leaves, elsewhere, Moves, moves-valid, moves-fates, shifts-all}
 use Rattle.note_line.proofs.Ordering.{Ordered, ordered, valid_of, comes, head-leaves, head-opens, head-spools, oldest-opens, spooled-leaves, open-leaves, goes-back}
 use Rattle.note_line.proofs.Places.{IsOther, IsPlaced, placed-between, count-cons, count-within, count-placed, none_counted, IsFound, found-between}
 
@@ -164,7 +164,7 @@ head-sent l (note ∷ notes) w few may free v = moved l _ v (record {
   was = head_waits l note notes w v;
   stood = refl;
   told = refl;
-  shifts = goes (l.opened ++ l.spool.notes) notes l.opened (l.spool.notes ++ notes) (rw w (simp append_assoc)) (simp append_assoc) (simp append_assoc);
+  shifts = elsewhere (l.opened ++ l.spool.notes) notes l.opened (l.spool.notes ++ notes) (rw w (simp append_assoc)) (simp append_assoc) (simp append_assoc);
   waiting = λ number. rw w (let e = count-cons number note notes in omega (arith, e));
   spooled = λ number. refl;
   opened = λ number. let e = count-push number l.opened note in omega (arith, e);
@@ -189,22 +189,22 @@ head-spooled l note notes s w e in_kinds v = moved l _ v (record {
 
 -- an open note goes to its place in the spool
 open-spooled : (l : Line) (number : ℕ) (note : Note) (s : Spool) → IsFound number l.opened note → s.notes ≡ placed note l.spool.notes → in_kind l.kinds note ≡ true → LineValid l → Goes l (fated Spooled note (record l { opened = without number l.opened; spool = s }))
-open-spooled l number note s at e in_kinds v = moved l _ v (record {
+open-spooled l number note s found e in_kinds v = moved l _ v (record {
   note = note;
   from = Open;
   to = Spooled;
   was = is_open_;
   stood = refl;
   told = refl;
-  shifts = goes at.before (at.behind ++ (l.spool.notes ++ l.waiting)) ((at.before ++ at.behind) ++ place.before) (place.behind ++ l.waiting)
-      (rw at.whole (simp append_assoc)) (rw place.whole (simp append_assoc)) (rw (at.others, e, place.is) (simp append_assoc));
+  shifts = elsewhere found.before (found.behind ++ (l.spool.notes ++ l.waiting)) ((found.before ++ found.behind) ++ place.before) (place.behind ++ l.waiting)
+      (rw found.whole (simp append_assoc)) (rw place.whole (simp append_assoc)) (rw (found.others, e, place.is) (simp append_assoc));
   waiting = λ other. refl;
   spooled = λ other. rw e (let k = count-placed other note l.spool.notes in omega (arith, k));
-  opened = λ other. rw (at.whole, at.others) (let k = count-within other at.before at.behind note in omega (arith, k));
-  ordered = rw (at.others, e) (goes-back at.before at.behind l.spool.notes l.waiting l.kinds l.window note in_kinds (none_spooled l note.number is_open_ v) (rw at.whole at (ordered l v)));
+  opened = λ other. rw (found.others, found.whole) (let k = count-within other found.before found.behind note in omega (arith, k));
+  ordered = rw (found.others, e) (goes-back found.before found.behind l.spool.notes l.waiting l.kinds l.window note in_kinds (none_spooled l note.number is_open_ v) (rw found.whole at (ordered l v)));
 }) where
   is_open_ : fate_of note.number l.told ≡ Some Open
-  is_open_ = open_is_open l at.before at.behind note at.whole v
+  is_open_ = open_is_open l found.before found.behind note found.whole v
 
   place : IsPlaced note l.spool.notes
   place = placed-between note l.spool.notes
@@ -243,18 +243,18 @@ spooled-dropped cause l a b note s w e v = moved l _ v (record {
 
 -- an open note ends
 open-ended : (l : Line) (number : ℕ) (fate : Fate) (note : Note) → is_waiting fate ≡ false → is_spooled fate ≡ false → is_open fate ≡ false → IsFound number l.opened note → LineValid l → Goes l (fated fate note (record l { opened = without number l.opened }))
-open-ended l number fate note w s p at v = moved l _ v (record {
+open-ended l number fate note w s p found v = moved l _ v (record {
   note = note;
   from = Open;
   to = fate;
-  was = open_is_open l at.before at.behind note at.whole v;
+  was = open_is_open l found.before found.behind note found.whole v;
   stood = refl;
   told = refl;
-  shifts = leaves at.before (at.behind ++ (l.spool.notes ++ l.waiting)) (rw at.whole (simp append_assoc)) (rw at.others (simp append_assoc));
+  shifts = leaves found.before (found.behind ++ (l.spool.notes ++ l.waiting)) (rw found.whole (simp append_assoc)) (rw found.others (simp append_assoc));
   waiting = λ other. rw w refl;
   spooled = λ other. rw s refl;
-  opened = λ other. rw (at.whole, at.others, p) (let e = count-within other at.before at.behind note in omega (arith, e));
-  ordered = rw at.others (open-leaves at.before at.behind l.spool.notes l.waiting l.kinds l.window note (rw at.whole at (ordered l v)));
+  opened = λ other. rw (found.others, found.whole, p) (let e = count-within other found.before found.behind note in omega (arith, e));
+  ordered = rw found.others (open-leaves found.before found.behind l.spool.notes l.waiting l.kinds l.window note (rw found.whole at (ordered l v)));
 })
 
 -- ---- the rule of a full spool
@@ -275,10 +275,10 @@ head-to-spool l overwrite (note ∷ notes) w k v =
     (λ t e. head-spooled l note notes t w e k v)
 
 open-to-spool : (l : Line) (overwrite : Bool) (number : ℕ) (note : Note) → IsFound number l.opened note → in_kind l.kinds note ≡ true → LineValid l → Goes l (returned overwrite note (record l { opened = without number l.opened }))
-open-to-spool l overwrite number note at k v =
+open-to-spool l overwrite number note found k v =
     lost-dropped l (fated Spooled note (record l { opened = without number l.opened })) (spool.put_back overwrite note l.spool) (placed note l.spool.notes) _ _
     (fitted-loses overwrite l.spool.capacity (placed note l.spool.notes)) refl
-    (λ t e. open-spooled l number note t at e k v)
+    (λ t e. open-spooled l number note t found e k v)
 
 -- ---- the states of the spool
 
@@ -355,7 +355,7 @@ may_stand l quiet v note may = of (in_kind l.kinds note) (is_inactive l.spool.lo
 
 -- one more may be open
 pub fewer : (l : Line) → may_open l ≡ true → length l.opened < l.window
-fewer l e = grind (arith, nat_tests)
+fewer l e = let few : nat_lt (length l.opened) l.window ≡ true = e in grind (arith, nat_tests, few)
 
 pub open-goes : (l : Line) → (is_inactive l.spool.load && has_note l.spool) ≡ false → head_may_go l ≡ true → may_open l ≡ true → LineValid l → Goes l (open_head l)
 open-goes l quiet may few v = head-sent l l.waiting refl (fewer l few) may (may_stand l quiet v) v

@@ -11,7 +11,7 @@ use Rattle.note_line.specs.declared.fate.Told.{Told}
 use Rattle.note_line.specs.declared.fate.Fate.{Fate}
 use Rattle.note_line.specs.declared.fate.Fate.TheVariants.{Answered, Open, Waiting, Spooled, Dropped}
 use Rattle.note_line.specs.declared.fate.DropCause.TheVariants.{NoSpool, Full, Purged}
-use Rattle.note_line.specs.Line.{Line, opening, is_number, without, fate_of, with_fate, fated, noted, with_head, with_one, with_open, restated, lost_is_dropped, spooled, returned, sent, spool_head, drop_head, open_head, open_oldest_of, open_oldest, purge_oldest_of, purge_oldest, failed, fail_open, answered, in_kind, with_kinds, begun}
+use Rattle.note_line.specs.Line.{Line, opening, is_number, without, fate_of, with_fate, fated, noted, with_head, with_one, restated, lost_is_dropped, spooled, returned, sent, spool_head, drop_head, open_head, open_oldest_of, open_oldest, purge_oldest_of, purge_oldest, failed, fail_open, answered, in_kind, with_kinds, begun}
 use Rattle.note_line.specs.Table3.{least, head_in_kind, has_open, may_open}
 use Rattle.note_line.specs.Fates.{passes, one_if}
 use Rattle.note_line.proofs.Rows.{Keeps, keeps, opening-valid, open_is_open, noted-keeps, answered-keeps, kinds-keeps, drop-goes, spool-goes, oldest-goes, purge-goes, fail-goes, restated-goes, begun-goes}

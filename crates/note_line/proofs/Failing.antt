@@ -1,5 +1,5 @@
 -- Where every transaction fails, none is open behind it.
-use Rattle.std.proofs.Common.{◌≡◌, ℕ, ◌+◌, ◌-◌, ◌≤◌, ◌==◌, Bool, true, false, List, [], ◌∷◌, ◌++◌, drop, Option, Some, None, find, cond, refl, sym, ap, subst, arith, ◌∙◌, if◌then◌else◌}
+use Rattle.std.proofs.Common.{◌≡◌, ℕ, ◌+◌, ◌-◌, ◌≤◌, ◌==◌, Bool, true, false, List, [], ◌∷◌, drop, Option, Some, None, find, cond, refl, sym, ap, subst, arith, ◌∙◌, if◌then◌else◌}
 use Rattle.std.specs.Prelude.{nat_lt, slice_get}
 use Rattle.std.specs.List.{count_by}
 use Rattle.std.proofs.lemmas.Bool.Decides.{nat_tests}
@@ -10,7 +10,7 @@ use Rattle.spool.proofs.PutBack.{dropped_at}
 use Rattle.note_line.specs.declared.around.Around.{Around}
 use Rattle.note_line.specs.declared.fate.Fate.TheVariants.{Dropped, Spooled}
 use Rattle.note_line.specs.declared.fate.DropCause.TheVariants.{NoSpool}
-use Rattle.note_line.specs.Line.{Line, is_number, without, in_kind, fated, with_one, with_open, lost_is_dropped, returned, failed, fail_open}
+use Rattle.note_line.specs.Line.{Line, is_number, without, in_kind, fated, with_one, lost_is_dropped, returned, failed, fail_open}
 use Rattle.note_line.specs.Failing.{numbers, put_down, greater, from_greatest, failing, fail_all}
 use Rattle.note_line.specs.Fates.{one_if}
 use Rattle.note_line.proofs.Places.{count-cons}

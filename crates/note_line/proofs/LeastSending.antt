@@ -1,13 +1,12 @@
 -- A note that is sent, for the first time or again, is the least of its kind among those that are spooled or wait.
-use Rattle.std.proofs.Common.{◌≡◌, ℕ, ◌≤◌, ◌==◌, Bool, true, false, not, ◌&&◌, ◌||◌, if◌then◌else◌, List, [], ◌∷◌, ◌++◌, take, Option, Some, None, refl, sym, ap, subst, arith, ◌∙◌}
+use Rattle.std.proofs.Common.{◌≡◌, ℕ, true, false, not, ◌&&◌, ◌||◌, List, [], ◌∷◌, ◌++◌, take, Some, refl, sym, ap, subst, arith, ◌∙◌}
 use Rattle.std.specs.List.{AllByRecursion}
-use Rattle.std.proofs.lemmas.Bool.Decides.{nat_tests}
 use Rattle.spool.specs.declared.note.Note.{Note}
 use Rattle.spool.specs.Spool.{is_inactive, has_note}
 use Rattle.note_line.specs.declared.around.Around.{Around}
 use Rattle.note_line.specs.Line.{Line, in_kind}
 use Rattle.note_line.specs.Order.{Pairwise, Less, Before, NotBelow, Between}
-use Rattle.note_line.specs.Table3.{Row, line_table, first_is, head_may_go, sends, least}
+use Rattle.note_line.specs.Table3.{Row, line_table, first_is, sends, least}
 use Rattle.note_line.specs.Fates.{LineValid}
 use Rattle.note_line.proofs.Lists.{all_joined, all_mapped, pairs_second}
 use Rattle.note_line.proofs.Rows.{and_first, may_stand}

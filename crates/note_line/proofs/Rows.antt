@@ -1,10 +1,10 @@
 -- What each effect does to the line: it keeps it valid, and fates.
-use Rattle.std.proofs.Common.{◌≡◌, ℕ, suc, zero, ◌+◌, ◌==◌, Bool, true, false, not, ◌||◌, ◌&&◌, List, [], ◌∷◌, ◌++◌, length, Option, Some, None, option_map, find, refl, sym, ap, subst, arith, cond, append_assoc, ◌∙◌}
+use Rattle.std.proofs.Common.{◌≡◌, ℕ, suc, zero, ◌+◌, ◌<◌, ◌==◌, Bool, true, false, not, ◌||◌, ◌&&◌, List, [], ◌∷◌, ◌++◌, length, Option, Some, None, option_map, find, refl, sym, ap, subst, arith, cond, append_assoc, ◌∙◌}
 use Rattle.std.specs.Prelude.{nat_lt, if◌then◌else◌}
 use Rattle.std.specs.List.{AllByRecursion, count_by}
 use Rattle.std.proofs.lemmas.Bool.{true≢false}
 use Rattle.std.proofs.lemmas.List.{length_push}
-use Rattle.std.proofs.lemmas.List.Sums.{sum_by_push, sum_by-cons}
+use Rattle.std.proofs.lemmas.List.Sums.{sum_by_push}
 use Rattle.std.proofs.lemmas.Bool.Decides.{nat_tests}
 use Rattle.spool.specs.declared.note.Note.{Note}
 use Rattle.spool.specs.declared.note.Kind.{Kind}
@@ -24,7 +24,7 @@ use Rattle.note_line.specs.Line.{Line, opening, next, standing, is_number, witho
 use Rattle.note_line.specs.Table3.{first_is, head_in_kind, head_may_go, may_open}
 use Rattle.note_line.specs.Order.{Less, Before}
 use Rattle.note_line.specs.Limits.{IsShort, AreShort}
-use Rattle.note_line.specs.Fates.{is_waiting, is_spooled, is_open, is_ended, tells, passes, has_fate, one_if, IsTold, LineValid, KeepsFates}
+use Rattle.note_line.specs.Fates.{is_waiting, is_spooled, is_open, tells, passes, has_fate, one_if, IsTold, LineValid, KeepsFates}
 use Rattle.note_line.proofs.Lists.{all_joined, all_first, all_second, all_mapped, Loses, loses_none, loses_one, fitted-loses}
 use Rattle.note_line.proofs.Numbers.{told_of-more, told_of-last, has_fate-more, fate-given}
 use Rattle.note_line.proofs.Moves.{stays, leaves, elsewhere, Moves, moves-valid, moves-fates, shifts-all}
@@ -449,7 +449,7 @@ new_is_told kind id text l = record {
 
 noted-valid : (kind : Kind) (id : ℕ) (text : List ℕ) (l : Line) → LineValid l → LineValid (noted kind id text l)
 noted-valid kind id text l v =
-    let note = record { number = next l; kind = kind; id = id; text = text } in
+    let note : Note = record { number = next l; kind = kind; id = id; text = text } in
     let below = all_mapped (IsTold l) (λ (x : Note). Less x note) (λ x is. is.below) (standing l) v.fated.told in
     valid_of (noted kind id text l)
     (comes l.opened l.spool.notes l.waiting l.kinds l.window note (all_first (λ (x : Note). Less x note) l.opened (l.spool.notes ++ l.waiting) below) (all_second (λ (x : Note). Less x note) l.opened (l.spool.notes ++ l.waiting) below) (ordered l v))

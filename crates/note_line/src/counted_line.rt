@@ -4,7 +4,7 @@ ghost use Rattle.std.specs.Prelude.{◌≡◌, ◌≤◌, ◌+◌, true, length,
 ghost use Rattle.spool.specs.Limits.{most_capacity};
 ghost use Rattle.spool.specs.Spool.{rsda};
 ghost use Rattle.note_line.specs.Line.{opening, noted, restated, spool_head, drop_head, open_head, open_oldest, purge_oldest, fail_open, answered, with_kinds, begun};
-ghost use Rattle.note_line.specs.Table3.{least, head_in_kind, has_open, may_open};
+ghost use Rattle.note_line.specs.Table3.{least, head_in_kind, may_open};
 ghost use Rattle.note_line.specs.Limits.{most_open, most_text};
 ghost use Rattle.note_line.specs.Counts.{answered_count, dropped_count};
 

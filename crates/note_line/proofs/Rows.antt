@@ -187,6 +187,10 @@ head-spooled l note notes s w e in_kinds v = moved l _ v (record {
   ordered = rw e (head-spools l.opened l.spool.notes notes l.kinds l.window note in_kinds (rw w at (ordered l v)));
 })
 
+-- lists one behind another, of which the third is in two parts
+regrouped : (a b c first second d : List Note) → c ≡ first ++ second → a ++ (b ++ (c ++ d)) ≡ ((a ++ b) ++ first) ++ (second ++ d)
+regrouped a b c first second d e = rw e (simp append_assoc)
+
 -- an open note goes to its place in the spool
 open-spooled : (l : Line) (number : ℕ) (note : Note) (s : Spool) → IsFound number l.opened note → s.notes ≡ placed note l.spool.notes → in_kind l.kinds note ≡ true → LineValid l → Goes l (fated Spooled note (record l { opened = without number l.opened; spool = s }))
 open-spooled l number note s found e in_kinds v = moved l _ v (record {
@@ -197,7 +201,7 @@ open-spooled l number note s found e in_kinds v = moved l _ v (record {
   stood = refl;
   told = refl;
   shifts = elsewhere found.before (found.behind ++ (l.spool.notes ++ l.waiting)) ((found.before ++ found.behind) ++ place.before) (place.behind ++ l.waiting)
-      (rw found.whole (simp append_assoc)) (rw place.whole (simp append_assoc)) (rw (found.others, e, place.is) (simp append_assoc));
+      (rw found.whole (simp append_assoc)) (regrouped found.before found.behind l.spool.notes place.before place.behind l.waiting place.whole) (rw (found.others, e, place.is) (simp append_assoc));
   waiting = λ other. refl;
   spooled = λ other. rw e (let k = count-placed other note l.spool.notes in omega (arith, k));
   opened = λ other. rw (found.others, found.whole) (let k = count-within other found.before found.behind note in omega (arith, k));

@@ -50,7 +50,7 @@ Going-open source = record {
 }
 
 -- a text and more of it, by what is kept
-text_on : (text kept whole more bytes : List ℕ) → text ≡ whole ++ kept → kept ++ more ≡ bytes → text ++ more ≡ whole ++ bytes
+pub text_on : (text kept whole more bytes : List ℕ) → text ≡ whole ++ kept → kept ++ more ≡ bytes → text ++ more ≡ whole ++ bytes
 text_on text kept whole more bytes is joined = ap (λ (t : List ℕ). t ++ more) is ∙ append_assoc whole kept more ∙ ap (λ (t : List ℕ). whole ++ t) joined
 
 line_first : (whole line more : List ℕ) → (whole ++ (line ++ 10 ∷ [])) ++ more ≡ whole ++ (line ++ 10 ∷ more)
@@ -93,7 +93,7 @@ Going-number source source' lines done g = omega (arith, g.numbered, g.within)
 -- ---- what was read, where no line is given any more
 
 -- the whole lines and what stands behind them
-splits : (source source' : SourceTold) (lines : LinesRead) (done : List (List ℕ)) (g : Going source source' lines done) (text behind : List ℕ) → text ≡ g.whole ++ behind → Splits text done behind
+pub splits : (source source' : SourceTold) (lines : LinesRead) (done : List (List ℕ)) (g : Going source source' lines done) (text behind : List ℕ) → text ≡ g.whole ++ behind → Splits text done behind
 splits source source' lines done g text behind is = record {
   whole = g.whole;
   text_is = is;

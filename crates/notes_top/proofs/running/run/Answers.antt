@@ -11,7 +11,7 @@ loop-why-init g c =
     let told = source_told g.S.Source.left g.S.Source.faults g.S.Source.ends in
     let held = g.K.Sink.held c.args.out.now in
     let start : LinesRead = record { line = []; kept = []; count = 0 } in
-    let is : c.args.lines.now ≡ start = c.requires in
+    let is : c.args.lines.now ≡ start = c.requires.lines in
     record {
       stands = λ first same.
           subst (λ (l : LinesRead). Stand g.D.Disk.tells g.D.Disk.reads g.D.Disk.leaves g.D.Disk.faults first (told c.args.input.now) (told c.args.input.now) l 1 c.args.kept held held) (sym is)

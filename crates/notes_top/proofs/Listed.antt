@@ -1,9 +1,9 @@
 -- Notes that are printed, one after another.
-use Rattle.std.proofs.Common.{◌≡◌, ℕ, ◌+◌, ◌<◌, List, [], ◌∷◌, ◌++◌, length, take, drop, Option, Some, Result, Ok, Err, slice_get, refl, sym, ◌∙◌, ap, subst, append_assoc, arith, take-append-drop}
+use Rattle.std.proofs.Common.{◌≡◌, ℕ, List, [], ◌∷◌, ◌++◌, take, drop, Option, Some, Result, Ok, Err, slice_get, refl, sym, ◌∙◌, ap, subst, append_assoc, take-append-drop}
 use Rattle.std.specs.Prelude.{zero, suc, OnErr}
-use Rattle.std.proofs.lemmas.List.{append-nil, take_all}
+use Rattle.std.proofs.lemmas.List.{append-nil}
 use Rattle.outside.specs.Told.{Written, WrittenFront}
-use Rattle.outside.proofs.Writing.{Written-more, WrittenFront-more, WrittenFront-all, WrittenFront-wider}
+use Rattle.outside.proofs.Writing.{WrittenFront-more, WrittenFront-wider}
 use Rattle.spool.specs.declared.note.Note.{Note}
 use Rattle.notes_lines.specs.Printed.{note_line, listed}
 

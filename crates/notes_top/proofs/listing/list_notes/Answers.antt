@@ -1,6 +1,5 @@
-use Rattle.std.proofs.Common.{◌≡◌, ℕ, ◌++◌, List, take, refl, sym, ◌∙◌, ap, subst, add-one}
-use Rattle.outside.specs.Told.{Written, WrittenFront}
-use Rattle.outside.proofs.Writing.{Written-more, WrittenFront-more, WrittenFront-all}
+use Rattle.std.proofs.Common.{take, ◌∙◌, add-one}
+use Rattle.outside.proofs.Writing.{Written-more, WrittenFront-all}
 use Rattle.notes_lines.specs.Printed.{note_line, listed}
 use Rattle.notes_top.proofs.Listed.{listed-next, listed-front, listed-front-next, on_err}
 use Rattle.notes_top.proofs.listing.list_notes.Goals as goal

@@ -1,6 +1,5 @@
-use Rattle.std.proofs.Common.{◌≡◌, ℕ, Bool, List, [], inl, Option, Result, Ok, Err, refl, sym, ◌∙◌, subst}
+use Rattle.std.proofs.Common.{ℕ, [], inl, Result, Ok, Err, refl, sym, ◌∙◌, subst}
 use Rattle.outside.proofs.Writing.{Written-nothing}
-use Rattle.line_grammar.specs.Reading.{Gives}
 use Rattle.notes_lines.specs.declared.line.SpoolLine.{SpoolLine}
 use Rattle.notes_lines.specs.declared.line.SpoolLine.TheVariants as line
 use Rattle.notes_top.specs.Keeping.{TakesLine}

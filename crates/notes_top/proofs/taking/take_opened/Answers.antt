@@ -1,4 +1,4 @@
-use Rattle.std.proofs.Common.{inl, ℕ, List, refl, sym, ◌∙◌, ap}
+use Rattle.std.proofs.Common.{inl, List, refl, sym, ◌∙◌, ap}
 use Rattle.std.specs.Prelude.{slice_get}
 use Rattle.spool.specs.declared.note.Note.{Note}
 use Rattle.notes_lines.specs.Printed.{taken_line}

@@ -1,23 +1,20 @@
 -- The lines of an input, one after another.
-use Rattle.std.proofs.Common.{◌≡◌, ◌≢◌, ◌⊎◌, inl, inr, ℕ, ◌+◌, ◌-◌, ◌<◌, ◌≤◌, List, [], ◌∷◌, ◌++◌, length, Bool, true, Option, Result, Ok, Err, refl, sym, ◌∙◌, ap, subst, append_assoc, length-append, arith}
-use Rattle.std.specs.Prelude.{suc, ⊤, MatchOption}
+use Rattle.std.proofs.Common.{◌≡◌, inl, inr, ℕ, ◌+◌, ◌-◌, ◌<◌, ◌≤◌, List, [], ◌∷◌, ◌++◌, length, Bool, Result, Ok, Err, refl, sym, ◌∙◌, ap, subst, append_assoc, length-append, arith}
 use Rattle.std.proofs.lemmas.List.{append-nil}
 use Rattle.std.proofs.lemmas.Bool.{lt-ltb}
-use Rattle.outside.specs.Counts.{Rose}
-use Rattle.outside.specs.Told.{Taken, Written, WrittenFront}
+use Rattle.outside.specs.Told.{Taken}
 use Rattle.text_lines.specs.Lines.{IsOneLine, lines_of, whole_lines}
-use Rattle.text_lines.proofs.Lines.{lines-line, whole-feed, whole-none, last_line}
+use Rattle.text_lines.proofs.Lines.{lines-line, whole-feed}
 use Rattle.line_grammar.specs.Reading.{line_bytes}
 use Rattle.source_lines.specs.Limits.{source_bytes}
-use Rattle.source_lines.specs.Reads.{LinesRead, SourceTold, IsPart, NextLine}
+use Rattle.source_lines.specs.Reads.{LinesRead, SourceTold, NextLine}
 use Rattle.source_lines.specs.declared.no_line.NoLine.{NoLine}
 use Rattle.source_lines.specs.declared.no_line.NoLine.TheVariants as no_line
 use Rattle.source_lines.proofs.Reading.{Taken-nothing, Taken-more, over_whole, IsOver-since}
 use Rattle.notes_lines.specs.declared.line.SpoolLine.{SpoolLine}
-use Rattle.notes_lines.specs.declared.line.SpoolLine.TheVariants as line
 use Rattle.notes_lines.specs.Reading.{spool_line_of}
 use Rattle.notes_top.specs.Stages.{Stage, is_open, Does, Run}
-use Rattle.notes_top.specs.Ran.{Splits, IsOver, IsNext, InWork, WholeDone, Doing}
+use Rattle.notes_top.specs.Ran.{Splits, IsOver, IsNext}
 
 -- ---- where the reader of lines stands: what it read, which whole lines that has, and what is kept behind them
 
@@ -50,7 +47,7 @@ Going-open source = record {
 }
 
 -- a text and more of it, by what is kept
-text_on : (text kept whole more bytes : List ℕ) → text ≡ whole ++ kept → kept ++ more ≡ bytes → text ++ more ≡ whole ++ bytes
+pub text_on : (text kept whole more bytes : List ℕ) → text ≡ whole ++ kept → kept ++ more ≡ bytes → text ++ more ≡ whole ++ bytes
 text_on text kept whole more bytes is joined = ap (λ (t : List ℕ). t ++ more) is ∙ append_assoc whole kept more ∙ ap (λ (t : List ℕ). whole ++ t) joined
 
 line_first : (whole line more : List ℕ) → (whole ++ (line ++ 10 ∷ [])) ++ more ≡ whole ++ (line ++ 10 ∷ more)
@@ -93,7 +90,7 @@ Going-number source source' lines done g = omega (arith, g.numbered, g.within)
 -- ---- what was read, where no line is given any more
 
 -- the whole lines and what stands behind them
-splits : (source source' : SourceTold) (lines : LinesRead) (done : List (List ℕ)) (g : Going source source' lines done) (text behind : List ℕ) → text ≡ g.whole ++ behind → Splits text done behind
+pub splits : (source source' : SourceTold) (lines : LinesRead) (done : List (List ℕ)) (g : Going source source' lines done) (text behind : List ℕ) → text ≡ g.whole ++ behind → Splits text done behind
 splits source source' lines done g text behind is = record {
   whole = g.whole;
   text_is = is;

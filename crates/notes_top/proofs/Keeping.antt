@@ -1,5 +1,5 @@
 -- What holds of a disk, step by step.
-use Rattle.std.proofs.Common.{◌≡◌, ◌⊎◌, inl, inr, ℕ, ◌≤◌, Bool, true, false, List, [], ◌++◌, Option, Result, Ok, Err, refl, sym, ◌∙◌, ap, subst, arith}
+use Rattle.std.proofs.Common.{◌≡◌, ◌⊎◌, inl, inr, ℕ, ◌≤◌, Bool, true, false, List, [], Option, Result, Ok, Err, refl, sym, ◌∙◌, ap, subst, arith}
 use Rattle.std.specs.Prelude.{OnOk, OnErr, IfErr, slice_get}
 use Rattle.outside.specs.Counts.{Rose}
 use Rattle.outside.specs.Disk.{Each}
@@ -7,7 +7,7 @@ use Rattle.outside.specs.Told.{Written, WrittenFront}
 use Rattle.outside.proofs.Writing.{Rose-wider, Written-nothing}
 use Rattle.spool.specs.declared.note.Note.{Note}
 use Rattle.spool_format.specs.Faults.{Told}
-use Rattle.spool_format.specs.Format.{Sizes, StandsFor, changed}
+use Rattle.spool_format.specs.Format.{Sizes, StandsFor}
 use Rattle.spool_format.specs.Unread.{IsUnread}
 use Rattle.spool_format.specs.declared.fault.NvFault.{NvFault}
 use Rattle.spool_format.specs.declared.fault.NvFault.TheVariants as fault
@@ -20,7 +20,7 @@ use Rattle.notes_lines.specs.declared.line.SpoolLine.{SpoolLine}
 use Rattle.notes_lines.specs.declared.line.SpoolLine.TheVariants as line
 use Rattle.notes_lines.specs.Printed.{listed, taken_line}
 use Rattle.notes_lines.specs.Reading.{spool_line_of}
-use Rattle.notes_top.specs.Stages.{Stage, AsFound, Formatted, Open, is_open, Opens, behind, Does, Holds}
+use Rattle.notes_top.specs.Stages.{Stage, AsFound, Formatted, Open, is_open, Opens, behind, Holds}
 use Rattle.notes_top.specs.Stops.{stop_of, stopped}
 use Rattle.notes_top.specs.Keeping.{disk_of, DiskAt, KeptAt, OpenedAt, Broken, Refuses, TakesLine}
 use Rattle.notes_top.specs.declared.kept.Kept.{Kept}

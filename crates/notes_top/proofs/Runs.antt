@@ -1,8 +1,8 @@
 -- A run of `notes`, from its first line to its end.
-use Rattle.std.proofs.Common.{◌≡◌, ◌≢◌, ◌⊎◌, inl, inr, ℕ, ◌+◌, ◌<◌, ◌≤◌, Bool, true, false, List, [], ◌∷◌, ◌++◌, length, Option, Result, Ok, Err, refl, sym, ◌∙◌, ap, subst, append_assoc, length-append, arith}
+use Rattle.std.proofs.Common.{◌≡◌, inl, inr, ℕ, ◌+◌, Bool, true, false, List, [], ◌∷◌, ◌++◌, length, Option, Result, Ok, Err, refl, sym, ◌∙◌, ap, subst, append_assoc, length-append, arith}
 use Rattle.std.proofs.lemmas.List.{append-nil}
 use Rattle.outside.specs.Counts.{Rose}
-use Rattle.outside.specs.Told.{Taken, Written, WrittenFront}
+use Rattle.outside.specs.Told.{Written}
 use Rattle.outside.proofs.Writing.{Written-nothing, Written-more, Written-same, Written-none-more, WrittenFront-more}
 use Rattle.text_lines.specs.Lines.{IsOneLine, lines_of}
 use Rattle.text_lines.proofs.Lines.{last_line}
@@ -20,7 +20,7 @@ use Rattle.notes_top.specs.Stages.{Stage, AsFound, is_open, Does, Run}
 use Rattle.notes_top.specs.Stops.{cause_of}
 use Rattle.notes_top.specs.Ending.{EndsAt, TakesLast}
 use Rattle.notes_top.specs.Keeping.{disk_of, DiskAt, KeptAt, TakesLine}
-use Rattle.notes_top.specs.Ran.{IsOver, IsNext, InWork, Doing, Stays, NotesRan}
+use Rattle.notes_top.specs.Ran.{IsOver, IsNext, InWork, Doing, NotesRan}
 use Rattle.notes_top.specs.declared.kept.Kept.{Kept}
 use Rattle.notes_top.specs.declared.kept.Kept.TheVariants as kept
 use Rattle.notes_top.specs.declared.stop.Stop.{Stop}
@@ -213,7 +213,7 @@ module _ {D : Type 0} (tells : D → Bool) (reads : D → List ℕ) (leaves : D 
       })
   Ran-end no_line.Long first source source' source'' lines lines' number now now' held held' held'' end s next so =
       let a = Asked-for source source' source'' lines lines' s.done (Err no_line.Long) s.going next in
-      let long = next.gives.2.2.1 in
+      let (part, behind, is, one, long) = next.gives in
       subst (λ (w : Cause). NotesRan tells reads leaves faults w source source'' held held'' first (disk_of now')) (sym so.why_is) (record {
         did = doing source source'' s.done a s.printed s.stage;
         taken = a.taken;

@@ -1,6 +1,6 @@
 -- What holds of a disk, and of a spool over it, where lines stand.
-use Rattle.std.specs.Prelude.{◌≡◌, ◌⊎◌, ℕ, ◌≤◌, ⊤, Bool, true, false, List, [], ◌∷◌, ◌++◌, Option, Result, Ok, Err}
-use Rattle.outside.specs.Counts.{Rose, Failed}
+use Rattle.std.specs.Prelude.{◌≡◌, ◌⊎◌, ℕ, ◌≤◌, ⊤, Bool, true, false, List, Option, Result, Ok, Err}
+use Rattle.outside.specs.Counts.{Rose}
 use Rattle.outside.specs.Told.{Written, WrittenFront}
 use Rattle.outside.specs.Disk.{Each}
 use Rattle.spool.specs.declared.note.Note.{Note}

@@ -1,6 +1,6 @@
 -- What a run of `notes` did, by how it ended (this tool's profile, durable spool).
-use Rattle.std.specs.Prelude.{◌≡◌, ◌⊎◌, ℕ, ◌+◌, ◌<◌, Bool, true, false, List, [], ◌∷◌, ◌++◌, length, Option, Result, Ok, Err}
-use Rattle.outside.specs.Counts.{Rose, Failed}
+use Rattle.std.specs.Prelude.{◌≡◌, ◌⊎◌, ℕ, ◌+◌, ◌<◌, Bool, true, false, List, ◌∷◌, ◌++◌, length, Option, Result, Ok, Err}
+use Rattle.outside.specs.Counts.{Rose}
 use Rattle.outside.specs.Told.{Taken, Written, WrittenFront, Whole}
 use Rattle.text_lines.specs.Lines.{IsOneLine, lines_of, whole_lines}
 use Rattle.source_lines.specs.Limits.{source_bytes}

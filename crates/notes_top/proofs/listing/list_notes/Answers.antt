@@ -1,8 +1,7 @@
-use Rattle.std.proofs.Common.{◌≡◌, ℕ, ◌++◌, List, take, refl, sym, ◌∙◌, ap, subst, add-one}
-use Rattle.outside.specs.Told.{Written, WrittenFront}
-use Rattle.outside.proofs.Writing.{Written-more, WrittenFront-more, WrittenFront-all}
+use Rattle.std.proofs.Common.{take, ◌∙◌, add-one}
+use Rattle.outside.proofs.Writing.{Written-more, WrittenFront-all}
 use Rattle.notes_lines.specs.Printed.{note_line, listed}
-use Rattle.notes_top.proofs.Listed.{listed-next, listed-front}
+use Rattle.notes_top.proofs.Listed.{listed-next, listed-front, listed-front-next, on_err}
 use Rattle.notes_top.proofs.listing.list_notes.Goals as goal
 
 pub returns-in_default-clause-front : goal.returns-in_default-clause-front
@@ -18,3 +17,10 @@ loop-index-preserved g c =
       faults = c.in_ok-write_line.ensures.unfailed.0 ∙ c.loop-index.invariant.faults;
       refusals = c.in_ok-write_line.ensures.unfailed.1 ∙ c.loop-index.invariant.refusals;
     }
+
+pub returns-in_err-write_line-clause-front : goal.returns-in_err-write_line-clause-front
+returns-in_err-write_line-clause-front g c =
+    let line = c.as_bytes.ensures.value ∙ c.in-Ok.ensures in
+    on_err c.from_residual.result
+    (listed-front-next (g.K.Sink.held c.args.out.now) (g.K.Sink.held c.loop-index.out) (g.K.Sink.held c.write_line.new.out) c.args.queue.now.notes c.loop-index.index c.note_at.result.now c.note_at.ensures
+    c.loop-index.invariant.written (rw line at c.in_err-write_line.ensures.front))

@@ -1,4 +1,4 @@
-use Rattle.std.proofs.Common.{refl, ap}
+use Rattle.std.proofs.Common.{refl}
 use Rattle.notes_top.proofs.Keeping.{KeptAt-disk}
 use Rattle.notes_top.proofs.running.end.Goals as goal
 

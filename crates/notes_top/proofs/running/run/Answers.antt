@@ -1,7 +1,6 @@
-use Rattle.std.proofs.Common.{◌≡◌, ◌+◌, ℕ, [], ◌∷◌, Option, List, length, length-append, refl, sym, ◌∙◌, ap, subst, arith}
+use Rattle.std.proofs.Common.{◌≡◌, [], ◌∷◌, length, length-append, refl, sym, ◌∙◌, ap, subst, arith}
 use Rattle.source_lines.specs.Reads.{LinesRead, source_told}
 use Rattle.notes_top.specs.declared.kept.Kept.{Kept}
-use Rattle.notes_top.specs.declared.kept.Kept.TheVariants as kept
 use Rattle.notes_top.proofs.Going.{Going-smaller}
 use Rattle.notes_top.proofs.Runs.{Stand, Stand-open, Stand-line, Ran-line, Ran-end}
 use Rattle.notes_top.proofs.running.run.Goals as goal
@@ -11,7 +10,7 @@ loop-why-init g c =
     let told = source_told g.S.Source.left g.S.Source.faults g.S.Source.ends in
     let held = g.K.Sink.held c.args.out.now in
     let start : LinesRead = record { line = []; kept = []; count = 0 } in
-    let is : c.args.lines.now ≡ start = c.requires in
+    let is : c.args.lines.now ≡ start = c.requires.lines in
     record {
       stands = λ first same.
           subst (λ (l : LinesRead). Stand g.D.Disk.tells g.D.Disk.reads g.D.Disk.leaves g.D.Disk.faults first (told c.args.input.now) (told c.args.input.now) l 1 c.args.kept held held) (sym is)
@@ -36,9 +35,9 @@ pub returns-in-Err-taken-clause-ran : goal.returns-in-Err-taken-clause-ran
 returns-in-Err-taken-clause-ran g c = λ first same.
     let told = source_told g.S.Source.left g.S.Source.faults g.S.Source.ends in
     let s = c.loop-why.invariant.stands first same in
-    Ran-line g.D.Disk.tells g.D.Disk.reads g.D.Disk.leaves g.D.Disk.faults first (told c.args.input.now) (told c.loop-why.input) (told c.next_line.new.source)
+    rw c.cause_of.ensures (Ran-line g.D.Disk.tells g.D.Disk.reads g.D.Disk.leaves g.D.Disk.faults first (told c.args.input.now) (told c.loop-why.input) (told c.next_line.new.source)
     c.loop-why.lines c.next_line.new.self c.loop-why.number c.loop-why.kept c.take_line-next.result.0 (g.K.Sink.held c.args.out.now) (g.K.Sink.held c.loop-why.out) (g.K.Sink.held c.take_line-next.new.out) c.in-Err-taken.stop s c.in-Ok.ensures
-    (rw (c.line.ensures, c.in-Err-taken.is) at c.take_line-next.ensures.takes first s.stage s.at)
+    (rw (c.line.ensures, c.in-Err-taken.is) at c.take_line-next.ensures.takes first s.stage s.at))
 
 pub loop-why-preserved : goal.loop-why-preserved
 loop-why-preserved g c =

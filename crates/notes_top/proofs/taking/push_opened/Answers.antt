@@ -1,8 +1,4 @@
-use Rattle.std.proofs.Common.{sym, ◌∙◌, subst, Result, Option, Ok}
-use Rattle.notes_lines.specs.declared.line.SpoolLine.TheVariants as line
-use Rattle.notes_top.specs.Keeping.{TakesLine}
-use Rattle.notes_top.specs.declared.kept.Kept.TheVariants as kept
-use Rattle.notes_top.specs.declared.stop.Stop.{Stop}
+use Rattle.std.proofs.Common.{sym, ◌∙◌}
 use Rattle.notes_top.proofs.Keeping.{Pushed-kept, stopped_write}
 use Rattle.notes_top.proofs.taking.push_opened.Goals as goal
 

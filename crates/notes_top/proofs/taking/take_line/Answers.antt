@@ -1,6 +1,5 @@
-use Rattle.std.proofs.Common.{◌≡◌, ℕ, Bool, List, [], inl, Option, Result, Ok, Err, refl, sym, ◌∙◌, subst}
+use Rattle.std.proofs.Common.{ℕ, [], inl, Result, Ok, Err, refl, sym, ◌∙◌, subst}
 use Rattle.outside.proofs.Writing.{Written-nothing}
-use Rattle.line_grammar.specs.Reading.{Gives}
 use Rattle.notes_lines.specs.declared.line.SpoolLine.{SpoolLine}
 use Rattle.notes_lines.specs.declared.line.SpoolLine.TheVariants as line
 use Rattle.notes_top.specs.Keeping.{TakesLine}
@@ -9,7 +8,7 @@ use Rattle.notes_top.proofs.taking.take_line.Goals as goal
 
 pub returns-in-Ok-Skip-clause-takes : goal.returns-in-Ok-Skip-clause-takes
 returns-in-Ok-Skip-clause-takes g c = λ first stage at.
-    (line.Skip, [], stage, said c.is_open.result stage c.args.line.now (Ok line.Skip) (c.is_open.ensures first stage at) c.in-Ok-Skip.ensures.says, (refl, refl), at, Written-nothing (g.K.Sink.held c.args.out.now))
+    (line.Skip, [], stage, said c.is_open.result stage c.args.line.now (Ok line.Skip) (c.is_open.ensures first stage at) (c.in-Ok-Skip.ensures.says ∙ ok_line c.in-Ok-Skip.field-0-is), (refl, refl), at, Written-nothing (g.K.Sink.held c.args.out.now))
 
 pub returns-in-Ok-Format-clause-takes : goal.returns-in-Ok-Format-clause-takes
 returns-in-Ok-Format-clause-takes g c = λ first stage at.
@@ -36,7 +35,7 @@ returns-in-Ok-List-clause-takes g c = λ first stage at.
     (sym (said c.is_open.result stage c.args.line.now (Ok line.List) (c.is_open.ensures first stage at) (c.in-Ok-List.ensures.says ∙ ok_line c.in-Ok-List.field-0-is))) (c.list.ensures.takes first stage at)
 
 pub returns-in-Err-Place-clause-takes : goal.returns-in-Err-Place-clause-takes
-returns-in-Err-Place-clause-takes g c = λ first stage at.
+returns-in-Err-Place-clause-takes g c = λ first stage at. rw c.in-Err-Place.field-0-is
     ((said c.is_open.result stage c.args.line.now (Err c.in-Err-Place.place) (c.is_open.ensures first stage at) (rw c.in-Err-Place.field-0-is at c.in-Err-Place.ensures.says), KeptAt-disk g.D.Disk.tells g.D.Disk.reads g.D.Disk.leaves g.D.Disk.faults first stage c.args.kept at), refl)
 
 pub returns-in-Err-NoMemory-clause-takes : goal.returns-in-Err-NoMemory-clause-takes

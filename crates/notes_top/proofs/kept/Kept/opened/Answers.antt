@@ -1,7 +1,5 @@
-use Rattle.notes_top.specs.declared.kept.Kept.TheVariants as kept
 use Rattle.std.proofs.Common.{subst, sym, ◌∙◌}
 use Rattle.notes_top.specs.Keeping.{KeptAt}
-use Rattle.notes_top.specs.declared.kept.Kept.{Kept}
 use Rattle.notes_top.proofs.Keeping.{KeptAt-open, OpenedAt-fresh, Refuses-fresh, not_write}
 use Rattle.notes_top.proofs.kept.Kept.opened.Goals as goal
 

@@ -14,7 +14,7 @@ use Rattle.process_job.specs.declared.job.ProcessJob.{ProcessJob}
 use Rattle.floor_model.specs.declared.tracked.Substrate.{Substrate}
 use Rattle.floor_model.specs.Floor.{ToolFloor, substrate_numbered}
 use Rattle.floor_model.specs.Jobs.{job_of}
-use Rattle.place_laws.specs.Picture.{picture, some_steps, steps_in, of_one, of_job}
+use Rattle.place_laws.specs.Picture.{some_steps, steps_in, of_one, of_job}
 use Rattle.work_laws.specs.Equipped.{Equipped}
 use Rattle.work_laws.proofs.Chambers.{have_chambers}
 use Rattle.lot_laws.specs.Lot.{HaveRoutes}

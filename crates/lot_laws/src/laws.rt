@@ -43,7 +43,8 @@ ghost use Rattle.owed_laws.specs.Owed.{owed_to};
 ghost use Rattle.owed_laws.specs.Undisturbed.{AreUnaligned, Undisturbed};
 ghost use Rattle.queue_laws.specs.Started.{is_queued, AreStarted};
 ghost use Rattle.queue_laws.specs.Steers.{AreAutomatic, disturbs_process, disturbs_control, is_completion};
-ghost use Rattle.lot_laws.specs.Lot.{names_slot, names_left, route_by, HaveRoutes, counted_of, planned_of, total, IsMaterialHere, AreInKeptJobs, Executes, GoesOnOrCompletes, TakesOneOff};
+ghost use Rattle.lot_laws.specs.Lot.{names_slot, names_left, route_by, HaveRoutes, counted_of, planned_of, total, IsMaterialHere, AreInKeptJobs};
+ghost use Rattle.lot_laws.specs.Lot.{Executes, GoesOnOrCompletes, TakesOneOff};
 ghost use Rattle.lot_laws.specs.Lot.{InOrder, IsCalmBetween, WorksOrIsDisturbed, is_word};
 
 /// As a control job starts by row 4 or 5 of table 15, where each process job that is left in it starts by itself and its material is
@@ -53,7 +54,8 @@ pub fn a_control_job_starts_with_its_material_in_place()
     ensures executes { (number row : ℕ) (f : ToolFloor) (c : ControlJob) → Sound f → AreTogether f.jobs → AreStarted f.jobs
         → AreUnaligned (picture f) → AreInKeptJobs f → control_numbered number f.jobs.control.jobs ≡ Some c
         → control_starts row (Some c) (is_first_here number f) f.jobs ≡ true → is_one_of (4 ∷ 5 ∷ []) row ≡ true
-        → AreAutomatic number f.jobs → IsMaterialHere number f → Executes number (planned_of number f) (counted_of number f) (floor_fired (firing 15 number row) f) }
+        → AreAutomatic number f.jobs → IsMaterialHere number f
+        → Executes number (planned_of number f) (counted_of number f) (floor_fired (firing 15 number row) f) }
     ensures owed { (number row : ℕ) (f : ToolFloor) (c : ControlJob) → Sound f → AreTogether f.jobs → AreStarted f.jobs
         → AreUnaligned (picture f) → AreInKeptJobs f → control_numbered number f.jobs.control.jobs ≡ Some c
         → control_starts row (Some c) (is_first_here number f) f.jobs ≡ true → is_one_of (4 ∷ 5 ∷ []) row ≡ true
@@ -63,19 +65,22 @@ pub fn a_control_job_starts_with_its_material_in_place()
 
 /// While it executes, its substrates stand undisturbed.
 pub fn its_substrates_stand_undisturbed()
-    ensures { (number : ℕ) (planned : ℕ → List (List ℕ)) (counted : ℕ → Bool) (f : ToolFloor) → Sound f → Executes number planned counted f → Undisturbed counted (picture f) }
+    ensures { (number : ℕ) (planned : ℕ → List (List ℕ)) (counted : ℕ → Bool) (f : ToolFloor) → Sound f → Executes number planned counted f
+        → Undisturbed counted (picture f) }
 {}
 
 /// While it executes, each counted substrate that isn't done is in the first of the process jobs that are left in it, in the order in which
 /// it named them, that names the slot, or that job is QUEUED and can take it; and it takes the route of that job.
 pub fn the_first_process_job_that_names_its_slot_takes_a_substrate()
-    ensures takes { (number : ℕ) (planned : ℕ → List (List ℕ)) (counted : ℕ → Bool) (f : ToolFloor) (n : ℕ) (s : Substrate) (before behind : List (List ℕ)) (j : ProcessJob)
+    ensures takes { (number : ℕ) (planned : ℕ → List (List ℕ)) (counted : ℕ → Bool) (f : ToolFloor) (n : ℕ) (s : Substrate)
+        (before behind : List (List ℕ)) (j : ProcessJob)
         → AreTogether f.jobs → Executes number planned counted f → substrate_numbered n f.substrates ≡ Some s → counted n ≡ true
         → is_done n (picture f) ≡ false → process_numbered j.number f.jobs.process.kept ≡ Some j
         → names_left (control_numbered number f.jobs.control.jobs) ≡ before ++ j.id ∷ behind → names_slot f s j.id ≡ true
         → list_any (names_slot f s) before ≡ false
         → (job_of s f.jobs ≡ Some j) ⊎ ((is_queued j.states.state ≡ true) × (can_join j f.shop s ≡ true)) }
-    ensures route { (number : ℕ) (planned : ℕ → List (List ℕ)) (counted : ℕ → Bool) (f : ToolFloor) (n : ℕ) (s : Substrate) (before behind : List (List ℕ)) (j : ProcessJob)
+    ensures route { (number : ℕ) (planned : ℕ → List (List ℕ)) (counted : ℕ → Bool) (f : ToolFloor) (n : ℕ) (s : Substrate)
+        (before behind : List (List ℕ)) (j : ProcessJob)
         → AreTogether f.jobs → Executes number planned counted f → substrate_numbered n f.substrates ≡ Some s → counted n ≡ true
         → is_done n (picture f) ≡ false → process_numbered j.number f.jobs.process.kept ≡ Some j
         → names_left (control_numbered number f.jobs.control.jobs) ≡ before ++ j.id ∷ behind
@@ -84,11 +89,13 @@ pub fn the_first_process_job_that_names_its_slot_takes_a_substrate()
 
 /// It executes on behind each row of table 14 that starts and doesn't disturb it, and as much is owed.
 pub fn it_executes_on_behind_rows_of_process_jobs()
-    ensures executes { (number : ℕ) (planned : ℕ → List (List ℕ)) (counted : ℕ → Bool) (f : ToolFloor) (n row : ℕ) (j : ProcessJob) → Sound f → AreTogether f.jobs
+    ensures executes { (number : ℕ) (planned : ℕ → List (List ℕ)) (counted : ℕ → Bool) (f : ToolFloor) (n row : ℕ) (j : ProcessJob) → Sound f
+        → AreTogether f.jobs
         → AreStarted f.jobs → Executes number planned counted f → process_numbered n f.jobs.process.kept ≡ Some j
         → floor_starts (firing 14 n row) f ≡ true → disturbs_process number j.id row f.jobs ≡ false
         → Executes number planned counted (floor_fired (firing 14 n row) f) }
-    ensures as_much { (number : ℕ) (planned : ℕ → List (List ℕ)) (counted : ℕ → Bool) (f : ToolFloor) (n row : ℕ) (j : ProcessJob) → Sound f → AreTogether f.jobs
+    ensures as_much { (number : ℕ) (planned : ℕ → List (List ℕ)) (counted : ℕ → Bool) (f : ToolFloor) (n row : ℕ) (j : ProcessJob) → Sound f
+        → AreTogether f.jobs
         → AreStarted f.jobs → Executes number planned counted f → process_numbered n f.jobs.process.kept ≡ Some j
         → floor_starts (firing 14 n row) f ≡ true → disturbs_process number j.id row f.jobs ≡ false
         → owed_to planned counted (picture (floor_fired (firing 14 n row) f)) ≡ owed_to planned counted (picture f) }
@@ -96,7 +103,8 @@ pub fn it_executes_on_behind_rows_of_process_jobs()
 
 /// It executes on behind each row of table 15 that starts and doesn't disturb it, but for its completion, and as much is owed.
 pub fn it_executes_on_behind_rows_of_control_jobs()
-    ensures executes { (number : ℕ) (planned : ℕ → List (List ℕ)) (counted : ℕ → Bool) (f : ToolFloor) (m row : ℕ) (c : ControlJob) → Sound f → AreTogether f.jobs
+    ensures executes { (number : ℕ) (planned : ℕ → List (List ℕ)) (counted : ℕ → Bool) (f : ToolFloor) (m row : ℕ) (c : ControlJob) → Sound f
+        → AreTogether f.jobs
         → AreStarted f.jobs → Executes number planned counted f → control_numbered m f.jobs.control.jobs ≡ Some c
         → control_starts row (Some c) (is_first_here m f) f.jobs ≡ true → disturbs_control number m row ≡ false
         → is_completion number m row ≡ false → Executes number planned counted (floor_fired (firing 15 m row) f) }
@@ -106,16 +114,19 @@ pub fn it_executes_on_behind_rows_of_control_jobs()
 
 /// Its completion is ready only where no Done is owed, and where none is owed some row is ready: at rest it has completed.
 pub fn it_completes_where_no_done_is_owed()
-    ensures ready { (number : ℕ) (planned : ℕ → List (List ℕ)) (counted : ℕ → Bool) (f : ToolFloor) (row : ℕ) (here : Bool) → Sound f → AreTogether f.jobs
+    ensures ready { (number : ℕ) (planned : ℕ → List (List ℕ)) (counted : ℕ → Bool) (f : ToolFloor) (row : ℕ) (here : Bool) → Sound f
+        → AreTogether f.jobs
         → AreStarted f.jobs → Executes number planned counted f → control_ready (control_numbered number f.jobs.control.jobs) here f.jobs ≡ Some row
         → owed_to planned counted (picture f) ≡ 0 }
-    ensures at_rest { (number : ℕ) (planned : ℕ → List (List ℕ)) (counted : ℕ → Bool) (f : ToolFloor) → Sound f → AreTogether f.jobs → AreStarted f.jobs
+    ensures at_rest { (number : ℕ) (planned : ℕ → List (List ℕ)) (counted : ℕ → Bool) (f : ToolFloor) → Sound f → AreTogether f.jobs
+        → AreStarted f.jobs
         → Executes number planned counted f → floor_least f ≡ None → owed_to planned counted (picture f) ≡ 0 → ⊥ }
 {}
 
 /// It executes on behind the least row that is ready by itself, and as much is owed; or the row is its completion, and none is owed.
 pub fn the_least_row_leaves_as_much_owed_or_completes_it()
-    ensures { (number : ℕ) (planned : ℕ → List (List ℕ)) (counted : ℕ → Bool) (f : ToolFloor) (x : Firing) → Sound f → AreTogether f.jobs → AreStarted f.jobs
+    ensures { (number : ℕ) (planned : ℕ → List (List ℕ)) (counted : ℕ → Bool) (f : ToolFloor) (x : Firing) → Sound f → AreTogether f.jobs
+        → AreStarted f.jobs
         → Executes number planned counted f → floor_least f ≡ Some x → GoesOnOrCompletes number planned counted f x }
 {}
 
@@ -154,10 +165,12 @@ pub fn it_executes_on_as_jobs_are_created()
     ensures process { (number : ℕ) (planned : ℕ → List (List ℕ)) (counted : ℕ → Bool) (f : ToolFloor) (spec : JobSpec) → Sound f → AreTogether f.jobs
         → AreStarted f.jobs → Executes number planned counted f → create_fault spec f.jobs.process ≡ None
         → Executes number planned counted (with_jobs (with_process spec f.jobs) f) }
-    ensures control { (number : ℕ) (planned : ℕ → List (List ℕ)) (counted : ℕ → Bool) (f : ToolFloor) (name : List ℕ) (named : List (List ℕ)) (auto : Bool) → Sound f
+    ensures control { (number : ℕ) (planned : ℕ → List (List ℕ)) (counted : ℕ → Bool) (f : ToolFloor) (name : List ℕ) (named : List (List ℕ))
+        (auto : Bool) → Sound f
         → AreTogether f.jobs → AreStarted f.jobs → Executes number planned counted f → control_fault name named f.jobs ≡ None
         → Executes number planned counted (with_jobs (with_control name named auto f.jobs) f) }
-    ensures head { (number : ℕ) (planned : ℕ → List (List ℕ)) (counted : ℕ → Bool) (f : ToolFloor) (name : List ℕ) → Sound f → AreTogether f.jobs → AreStarted f.jobs
+    ensures head { (number : ℕ) (planned : ℕ → List (List ℕ)) (counted : ℕ → Bool) (f : ToolFloor) (name : List ℕ) → Sound f → AreTogether f.jobs
+        → AreStarted f.jobs
         → Executes number planned counted f → Executes number planned counted (with_jobs (record f.jobs { control = headed name f.jobs.control }) f) }
     ensures fetched { (number : ℕ) (planned : ℕ → List (List ℕ)) (counted : ℕ → Bool) (f : ToolFloor) (m : ℕ) → Executes number planned counted f
         → Executes number planned counted (fetched m f) }
@@ -166,21 +179,26 @@ pub fn it_executes_on_as_jobs_are_created()
 /// As an input comes it is at work and as much is owed, and so it is behind each row that a word fires, as jobs are created and as the
 /// order of the queue changes, or it is disturbed for good. Where all that the input does is calm it executes then, and as much is owed.
 pub fn an_input_leaves_it_at_work_or_disturbs_it_for_good()
-    ensures comes { (number : ℕ) (planned : ℕ → List (List ℕ)) (counted : ℕ → Bool) (f : ToolFloor) → Executes number planned counted f → WorksOrIsDisturbed number planned counted f f }
+    ensures comes { (number : ℕ) (planned : ℕ → List (List ℕ)) (counted : ℕ → Bool) (f : ToolFloor) → Executes number planned counted f
+        → WorksOrIsDisturbed number planned counted f f }
     ensures word { (number : ℕ) (planned : ℕ → List (List ℕ)) (counted : ℕ → Bool) (before f : ToolFloor) (x : Firing) → InOrder f → is_word x ≡ true
-        → floor_starts x f ≡ true → WorksOrIsDisturbed number planned counted before f → WorksOrIsDisturbed number planned counted before (floor_fired x f) }
+        → floor_starts x f ≡ true → WorksOrIsDisturbed number planned counted before f
+        → WorksOrIsDisturbed number planned counted before (floor_fired x f) }
     ensures process { (number : ℕ) (planned : ℕ → List (List ℕ)) (counted : ℕ → Bool) (before f : ToolFloor) (spec : JobSpec) → InOrder f
         → create_fault spec f.jobs.process ≡ None → WorksOrIsDisturbed number planned counted before f
         → WorksOrIsDisturbed number planned counted before (with_jobs (with_process spec f.jobs) f) }
-    ensures control { (number : ℕ) (planned : ℕ → List (List ℕ)) (counted : ℕ → Bool) (before f : ToolFloor) (name : List ℕ) (named : List (List ℕ)) (auto : Bool)
+    ensures control { (number : ℕ) (planned : ℕ → List (List ℕ)) (counted : ℕ → Bool) (before f : ToolFloor) (name : List ℕ)
+        (named : List (List ℕ)) (auto : Bool)
         → InOrder f → control_fault name named f.jobs ≡ None → WorksOrIsDisturbed number planned counted before f
         → WorksOrIsDisturbed number planned counted before (with_jobs (with_control name named auto f.jobs) f) }
     ensures head { (number : ℕ) (planned : ℕ → List (List ℕ)) (counted : ℕ → Bool) (before f : ToolFloor) (name : List ℕ) → InOrder f
         → WorksOrIsDisturbed number planned counted before f
         → WorksOrIsDisturbed number planned counted before (with_jobs (record f.jobs { control = headed name f.jobs.control }) f) }
-    ensures executes { (number : ℕ) (planned : ℕ → List (List ℕ)) (counted : ℕ → Bool) (before f : ToolFloor) → WorksOrIsDisturbed number planned counted before f
+    ensures executes { (number : ℕ) (planned : ℕ → List (List ℕ)) (counted : ℕ → Bool) (before f : ToolFloor)
+        → WorksOrIsDisturbed number planned counted before f
         → IsCalmBetween number counted before f → Executes number planned counted f }
-    ensures as_much { (number : ℕ) (planned : ℕ → List (List ℕ)) (counted : ℕ → Bool) (before f : ToolFloor) → WorksOrIsDisturbed number planned counted before f
+    ensures as_much { (number : ℕ) (planned : ℕ → List (List ℕ)) (counted : ℕ → Bool) (before f : ToolFloor)
+        → WorksOrIsDisturbed number planned counted before f
         → IsCalmBetween number counted before f → owed_to planned counted (picture f) ≡ owed_to planned counted (picture before) }
 {}
 

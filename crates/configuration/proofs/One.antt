@@ -4,7 +4,7 @@ use Rattle.std.proofs.lemmas.Bool.{false≢true}
 use Rattle.toml.specs.Data.{Members}
 use Rattle.tool_events.specs.declared.config.Config.{Config}
 use Rattle.configuration.specs.declared.fault.ConfigFault.{ConfigFault}
-use Rattle.configuration.specs.Rules.{Row, row, rules, last_rules, all_rules, all_rules_for, AreGiven, least_broken}
+use Rattle.configuration.specs.Rules.{Row, row, rules, all_rules, all_rules_for, AreGiven, least_broken}
 use Rattle.configuration.specs.Reading.{IsToml, Says, Breaks}
 
 same : {A : Type 0} {x y z : A} → x ≡ z → y ≡ z → x ≡ y
@@ -21,7 +21,7 @@ alike ms c d (row rule key kind default field ∷ rows) a b = (same a.0 b.0, ali
 
 -- the rows say each field of a configuration
 each_field : (version chambers : ℕ) (c d : Config) → AreAlike c d (all_rules version chambers) → c ≡ d
-unfolding rules, last_rules
+unfolding rules
 each_field of_version of_plant c d (version, (device, (mdln, (softrev, (communication, (control, (chambers, (ports, (spool_capacity, (spool_streams, (overwrite, (max_transmit, (t3, (t6, (t7, (establish, (linktest, (max_entries, (max_bytes, (start_moment, (recipes, (tcp_port, (window, rest))))))))))))))))))))))) = λ i. record {
   version = version i;
   device = device i;

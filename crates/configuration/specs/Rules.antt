@@ -109,7 +109,7 @@ abbrev pub window_key : List ℕ
 window_key = codes "window"
 
 -- the rule behind rule 18: how many notes may be open at once. Version 1 has no such key
-unfoldable pub last_rules : List Row
+abbrev pub last_rules : List Row
 last_rules = row 19 window_key (number 1 8) 1 (λ c. c.window) ∷ []
 
 -- all rows

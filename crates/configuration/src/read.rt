@@ -96,7 +96,7 @@ fn has_later_key(table: &Table, version: u8) -> bool
 }
 
 // Rule 18, where a table of a version breaks it.
-#[tactic(auto, unfolding(crate::specs::Rules::rules, crate::specs::Rules::last_rules))]
+#[tactic(auto, unfolding(crate::specs::Rules::rules))]
 fn broken_by_other(table: &Table, version: u8) -> Option<ConfigFault>
     requires { version ≡ version_of (table_view table.now) }
     ensures { result ≡ broken_by_other (version_of (table_view table.now)) (all_rules_for (table_view table.now)) (table_view table.now) }

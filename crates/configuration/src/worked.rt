@@ -64,7 +64,7 @@ pub fn a_third_version_breaks_rule_1()
 {}
 
 /// Version 2 has a window of one to eight open notes.
-#[tactic(auto, unfolding(crate::specs::Rules::rules, crate::specs::Rules::last_rules))]
+#[tactic(auto, unfolding(crate::specs::Rules::rules))]
 pub fn a_window_is_one_to_eight()
     ensures one { least_broken (window_of 2 1) ≡ None }
     ensures eight { least_broken (window_of 2 8) ≡ None }
@@ -73,7 +73,7 @@ pub fn a_window_is_one_to_eight()
 {}
 
 /// In version 1 its key is one that no rule knows. A key that no rule knows is told before a faulty window.
-#[tactic(auto, unfolding(crate::specs::Rules::rules, crate::specs::Rules::last_rules))]
+#[tactic(auto, unfolding(crate::specs::Rules::rules))]
 pub fn version_1_has_no_window()
     ensures first { least_broken (window_of 1 1) ≡ Some (fault.Rule 18 []) }
     ensures by_default { least_broken (of_key (codes "window") (number 1)) ≡ Some (fault.Rule 18 []) }

@@ -5,7 +5,7 @@ use Rattle.toml.specs.View.{table_view}
 use Rattle.tool_tasks.specs.declared.recipes.Recipe.{Recipe}
 use Rattle.configuration.specs.declared.fault.ConfigFault.{ConfigFault}
 use Rattle.configuration.specs.Recipes.{recipe_for_all}
-use Rattle.configuration.specs.Rules.{rules, last_rules, most_chambers, most_ports, said_at, taken, broken_by, Noted, number, recipes, text}
+use Rattle.configuration.specs.Rules.{rules, most_chambers, most_ports, said_at, taken, broken_by, Noted, number, recipes, text}
 use Rattle.configuration.proofs.reader.Reader.config.Goals as goal
 
 -- what is noted behind one row more
@@ -33,7 +33,7 @@ text_taken : (default same taken_text key : List ℕ) (ms : Members) → default
 text_taken default same taken_text key ms e t = rw (← e) t
 
 pub returns-clause-given : goal.returns-clause-given
-unfolding rules, last_rules
+unfolding rules
 returns-clause-given c =
     let ms = table_view c.args.self.now.table.now in
     let version = c.number-version.ensures.value in
@@ -142,5 +142,4 @@ returns-clause-broken c =
     refl))))))))))))))))))))))
 
 pub returns-clause-last : goal.returns-clause-last
-unfolding last_rules
 returns-clause-last c = after c.number-window.ensures.broken refl

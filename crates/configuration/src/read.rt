@@ -8,7 +8,7 @@ ghost use Rattle.configuration.specs.declared.fault.ConfigFault.TheVariants as f
 
 use crate::fault::ConfigFault;
 use crate::keys::has_other_key;
-use crate::reader::{Reader, WINDOW_KEY};
+use crate::reader::Reader;
 use crate::recipes::value_at;
 use gem_ids::Text80;
 use std::alloc::Global;
@@ -42,7 +42,7 @@ const KEYS: [&str; 23] = [
     "start_moment",
     "recipes",
     "tcp_port",
-    WINDOW_KEY,
+    "window",
 ];
 
 /// Reads a configuration (this tool's profile, configuration): the value that the text says. `Rule` is the least rule that the
@@ -92,7 +92,7 @@ fn config_of(table: &Table) -> Result<Config, ConfigFault>
 fn has_later_key(table: &Table, version: u8) -> bool
     ensures { result ≡ has_later_key version (table_view table.now) }
 {
-    version == 1 && value_at(table, WINDOW_KEY).is_some()
+    version == 1 && value_at(table, "window").is_some()
 }
 
 // Rule 18, where a table of a version breaks it.

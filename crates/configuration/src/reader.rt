@@ -27,9 +27,6 @@ const NEWEST_VERSION: u64 = 2;
 // The last moment of the year 9999.
 const LAST_MOMENT: u64 = 25_245_561_599_999;
 
-// The key of rule 19.
-pub(crate) const WINDOW_KEY: &str = "window";
-
 // The first rule that was broken, if one was.
 pub(crate) type Broken = Option<ConfigFault>;
 
@@ -208,7 +205,7 @@ impl Reader<'_> {
         let default = recipe_for_all(chambers);
         let recipes = self.recipes(broken, 16, "recipes", version, chambers, default);
         let tcp_port = self.number(broken, 17, "tcp_port", 1, 65_535, 5000) as u16;
-        let window = self.number(last, 19, WINDOW_KEY, 1, 8, 1) as u8;
+        let window = self.number(last, 19, "window", 1, 8, 1) as u8;
         Config {
             version,
             device,

@@ -111,14 +111,15 @@ listed_control : (rows : List ℕ) → Are IsEnd (of_control rows)
 listed_control [] = tt
 listed_control (row ∷ rows) = (record { listed = λ is. absurd (cc); first_tables = refl }, listed_control rows)
 
-listed_note : Are IsEnd note_fails
-listed_note = (record { listed = λ is. refl; first_tables = refl }, tt)
+listed_failing : (numbers : List ℕ) → Are IsEnd (of_failing numbers)
+listed_failing [] = tt
+listed_failing (number ∷ numbers) = (record { listed = λ is. refl; first_tables = refl }, listed_failing numbers)
 
 listed_attempt : (g : State) → Are IsEnd (attempt_fails g)
 listed_attempt g = either_way (Are IsEnd) (is_some (first_of what.Attempt g.transactions.opened)) (by_control trigger.Failed g) [] (listed_control (control_rows trigger.Failed g.switch_local)) tt
 
 listed_all : (g : State) → Are IsEnd (all_fail g)
-listed_all g = are_both IsEnd (attempt_fails g) note_fails (listed_attempt g) listed_note
+listed_all g = are_both IsEnd (attempt_fails g) (notes_fail g) (listed_attempt g) (listed_failing (failing g.line))
 
 pub listed_answer : (w : What) (function : ℕ) (item : Option Data) (g : State) → Are IsEnd (answer_rows w function item g)
 listed_answer what.Establish function item g = listed_comm (comm_rows (establish_answer function item))
@@ -128,7 +129,7 @@ listed_answer (what.Note n) function item g = tt
 pub listed_timeout : (w : What) (g : State) → Are IsEnd (timeout_rows w g)
 listed_timeout what.Establish g = listed_comm (comm_rows comm.Refused)
 listed_timeout what.Attempt g = listed_control (control_rows trigger.Failed g.switch_local)
-listed_timeout (what.Note n) g = listed_note
+listed_timeout (what.Note n) g = listed_failing (n ∷ [])
 
 pub listed_ended : (g : State) → Are IsEnd (session_end_rows g)
 listed_ended g = are_both IsEnd (by_comm comm.SessionEnd) (all_fail g) (listed_comm (comm_rows comm.SessionEnd)) (listed_all g)

@@ -11,7 +11,7 @@ use Rattle.gem_states.specs.Control as control
 use Rattle.spool.specs.declared.note.Kind.{Kind}
 use Rattle.spool.specs.declared.note.Kind.TheVariants.{Event, Alarm}
 use Rattle.spool.specs.declared.note.Note.{Note}
-use Rattle.note_line.specs.Table3.{row_effect, sends}
+use Rattle.note_line.specs.Table3.{row_effect}
 use Rattle.transactions.specs.declared.transaction.What.{What}
 use Rattle.transactions.specs.declared.transaction.What.TheVariants as what
 use Rattle.transactions.specs.Table.{taken_out}
@@ -80,9 +80,9 @@ abbrev pub asks_first : List Note → State → State
 asks_first [] g = g
 asks_first (note ∷ notes) g = asks (stream_of_kind note.kind) (function_of_kind note.kind) (what.Note note.number) note.text g
 
--- the note that a row sends is sent, if it sends one: 12 the oldest spooled one, and 13 the head
+-- row 12: the oldest spooled note is sent; row 13: the head is sent
 abbrev pub line_effect : ℕ → State → State
-line_effect row g = asks_first (sends row g.line) g
+line_effect row g = if row == 12 then asks_first g.line.spool.notes g else (if row == 13 then asks_first g.line.waiting g else g)
 
 -- the row of a number fires, at the note of a number
 abbrev pub fire_line : ℕ → ℕ → State → State

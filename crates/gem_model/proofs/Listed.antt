@@ -37,13 +37,14 @@ use Rattle.gem_rows.specs.Events.{ceid_of}
 use Rattle.std.proofs.lemmas.Bool.{true≢false}
 use Rattle.gem_states.specs.Control.{control_starts}
 use Rattle.gem_states.specs.declared.control.Control.TheVariants.{Attempt}
-use Rattle.gem_model.specs.Fire.{fire, advanced, fire_listed, of_comm, of_control, of_line}
+use Rattle.gem_model.specs.Fire.{fire, advanced, fire_listed, of_comm, of_control, of_line, of_failing}
+use Rattle.note_line.specs.Failing.{failing}
 use Rattle.gem_model.specs.Effects.{control_effect}
 use Rattle.gem_model.specs.Remote.{Decision, refused, goes_local, clears, decided, commands}
 use Rattle.gem_model.specs.HostMessages.{HostMessage, Gem, Shop}
 use Rattle.gem_model.specs.Messages.{done, gem_done, shop_done, port_done, remote_done}
 use Rattle.gem_model.specs.Spooling.{unload_rows}
-use Rattle.gem_model.specs.Direct.{Are, IsListed, by_comm, by_control, note_fails, attempt_fails, all_fail, operator_rows, answer_rows, timeout_rows, session_end_rows, establish_answer, attempt_answer}
+use Rattle.gem_model.specs.Direct.{Are, IsListed, by_comm, by_control, notes_fail, attempt_fails, all_fail, operator_rows, answer_rows, timeout_rows, session_end_rows, establish_answer, attempt_answer}
 use Rattle.gem_model.proofs.Tests.{went, either_way}
 use Rattle.gem_model.proofs.FloorRows.{IsFloorRow, AreFloorRows, IsOfInput, input_transfer, input_access, input_reservation, input_process, input_control, input_module, module_are, shop_are, port_are, service_are, access_are, advanced_keeps, command_are, control_rows_are}
 use Rattle.load_port.specs.declared.action.PortAction.{PortAction}

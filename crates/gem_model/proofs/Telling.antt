@@ -1,7 +1,6 @@
 -- The notes that a change of the line makes, and the frames that go with them.
 use Rattle.std.proofs.Common.{◌≡◌, ◌<◌, ℕ, suc, ◌+◌, ◌%◌, ◌==◌, Bool, true, false, if◌then◌else◌, List, [], ◌∷◌, ◌++◌, length, map, Option, Some, None, refl, sym, ◌∙◌, ap, subst, arith, append_assoc, length-append}
 use Rattle.std.specs.List.{AllByRecursion}
-use Rattle.std.specs.Option.{option_to_list}
 use Rattle.std.proofs.lemmas.Bool.Decides.{nat_tests}
 use Rattle.std.proofs.lemmas.List.{append-nil, length-map, map-append}
 use Rattle.hsms_frame.specs.declared.frame.Header.{Header}
@@ -165,9 +164,9 @@ frames_control P g row waits =
     control_effect_case (λ (k : State). AllByRecursion (Carries P) k.waiting) (row_of control_table row) h waits
     (frames_asks P h 1 1 what.Attempt [] (λ system. refl) waits) waits
 
-frames_line : (P : Note → Type 0) (g : State) (row : ℕ) → AllByRecursion P (standing g.line) → Frames P g (fire_line row g)
-frames_line P g row all waits =
-    let behind = all_second P (option_to_list g.line.opened) (g.line.spool.notes ++ g.line.waiting) all in
+frames_line : (P : Note → Type 0) (g : State) (row note : ℕ) → AllByRecursion P (standing g.line) → Frames P g (fire_line row note g)
+frames_line P g row note all waits =
+    let behind = all_second P g.line.opened (g.line.spool.notes ++ g.line.waiting) all in
     either_way (λ (h : State). AllByRecursion (Carries P) h.waiting) (row == 12) (asks_first g.line.spool.notes g) (if row == 13 then asks_first g.line.waiting g else g)
     (frames_first P g g.line.spool.notes (all_first P g.line.spool.notes g.line.waiting behind) waits)
     (either_way (λ (h : State). AllByRecursion (Carries P) h.waiting) (row == 13) (asks_first g.line.waiting g) g
@@ -178,12 +177,12 @@ tells_effect g f = subst (Tells g []) (sym (effect_as g f)) (of (f.row.table == 
   row : ℕ
   row = f.row.row
 
-  of : (first second third : Bool) → Tells g [] (if first then fire_comm row g else (if second then fire_control row g else (if third then fire_line row g else fire_floor f g)))
+  of : (first second third : Bool) → Tells g [] (if first then fire_comm row g else (if second then fire_control row g else (if third then fire_line row f.object g else fire_floor f g)))
   of true second third = tells_same g (fire_comm row g) (line_comm g row) (λ P all. frames_comm P g row)
   of false true third = tells_same g (fire_control row g) (line_control g row) (λ P all. frames_control P g row)
   of false false true =
-      goes_quiet g.line (fire_line row g).line g.waiting (fire_line row g).waiting (row-tells (around g) row g.line)
-      (λ P. row-stands P (around g) row g.line) (λ P. frames_line P g row)
+      goes_quiet g.line (fire_line row f.object g).line g.waiting (fire_line row f.object g).waiting (row-tells (around g) row f.object g.line)
+      (λ P. row-stands P (around g) row f.object g.line) (λ P. frames_line P g row f.object)
   of false false false = tells_at g
 
 -- a note is made exactly where the event is reported

@@ -6,7 +6,7 @@ ghost use Rattle.gem_ids.specs.declared.numbers.LocId.TheVariants.{Arm, Chamber}
 ghost use Rattle.tool_tasks.specs.declared.task.Task.TheVariants as task;
 ghost use Rattle.process_job.specs.declared.record.JobState.TheVariants as process;
 ghost use Rattle.work_laws.specs.Work.{is_work_left, is_any_open};
-ghost use Rattle.worked_floors.specs.Worked.{wafer, own_slot, is_given, has_open, in_slot, picking, placing, working, finished_at, returning, back, starting, settling, settled, firings, behind, done, behind_dones};
+ghost use Rattle.worked_floors.specs.Worked.{wafer, own_slot, is_given, has_open, in_slot, picking, placing, working, finished_at, returning, back, starting, settling, settled, firings, behind, done, behind_dones, all_done};
 ghost use Rattle.worked_floors.specs.Jobs.{running, ended, is_member, in_job, by_two_steps, between_at, going_on, working_again, finished_again_at, created, at_control, started, paused, resumed, stopped, aborted};
 
 /// A lot begins: the control job is SELECTED and EXECUTING, the process job is SETTING UP, where it gets its members, and PROCESSING, and
@@ -49,12 +49,16 @@ pub fn a_lot_by_two_steps_ends_at_the_eleventh_done()
 {}
 
 /// STOP, and ABORT, between two steps, where no open Process names the substrate: it is STOPPED, or ABORTED, at once. STOP while the
-/// chamber of the first step works: the substrate is STOPPED behind the Done. ABORT then: it ends ABORTED with the Done.
+/// chamber of the first step works: the substrate is STOPPED behind the Done, and goes back to its slot. ABORT then: it ends ABORTED
+/// with the Done.
 pub fn a_job_ends_between_two_steps()
     ensures stops { firings stopped (by_two_steps (in_job going_on)) ≡ firing 14 1 11 ∷ firing 13 1 6 ∷ [] }
     ensures aborts { firings aborted (by_two_steps (in_job going_on)) ≡ firing 14 1 12 ∷ firing 13 1 7 ∷ [] }
     ensures working { firings stopped (by_two_steps (in_job working)) ≡ firing 14 1 11 ∷ [] }
     ensures stopped { firings (done 3) (by_two_steps (is_member (running process.Stopping working))) ≡ firing 16 3 7 ∷ firing 13 1 6 ∷ firing 16 1 2 ∷ [] }
+    ensures back { all_done (3 ∷ 1 ∷ 1 ∷ []) (by_two_steps (is_member (running process.Stopping working)))
+        ≡ firing 16 3 7 ∷ firing 13 1 6 ∷ firing 16 1 2 ∷ firing 16 1 5 ∷ firing 11 27 1 ∷ firing 11 28 2 ∷ firing 16 1 1 ∷ firing 16 1 5
+            ∷ firing 11 3 1 ∷ firing 11 27 2 ∷ firing 12 1 3 ∷ firing 14 1 13 ∷ firing 10 1 3 ∷ firing 4 1 4 ∷ firing 15 1 8 ∷ [] }
     ensures aborted { firings (done 3) (by_two_steps (is_member (running process.Aborting working))) ≡ firing 16 3 7 ∷ firing 13 1 4 ∷ firing 16 1 2 ∷ [] }
 {}
 

@@ -58,7 +58,7 @@ pub fn a_job_ends_between_two_steps()
     ensures stopped { firings (done 3) (by_two_steps (is_member (running process.Stopping working))) ≡ firing 16 3 7 ∷ firing 13 1 6 ∷ firing 16 1 2 ∷ [] }
     ensures back { all_done (3 ∷ 1 ∷ 1 ∷ []) (by_two_steps (is_member (running process.Stopping working)))
         ≡ firing 16 3 7 ∷ firing 13 1 6 ∷ firing 16 1 2 ∷ firing 16 1 5 ∷ firing 11 27 1 ∷ firing 11 28 2 ∷ firing 16 1 1 ∷ firing 16 1 5
-            ∷ firing 11 3 1 ∷ firing 11 27 2 ∷ firing 12 1 3 ∷ firing 14 1 13 ∷ firing 10 1 3 ∷ firing 4 1 4 ∷ firing 15 1 8 ∷ [] }
+        ∷ firing 11 3 1 ∷ firing 11 27 2 ∷ firing 12 1 3 ∷ firing 14 1 13 ∷ firing 10 1 3 ∷ firing 4 1 4 ∷ firing 15 1 8 ∷ [] }
     ensures aborted { firings (done 3) (by_two_steps (is_member (running process.Aborting working))) ≡ firing 16 3 7 ∷ firing 13 1 4 ∷ firing 16 1 2 ∷ [] }
 {}
 

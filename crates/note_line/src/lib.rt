@@ -2,7 +2,8 @@
 //! events and of alarms, each of which waits for its turn, is sent or spooled, and is answered or dropped.
 //!
 //! It holds the notes and knows what became of each. It makes no texts, starts no transactions and sends nothing: its
-//! caller sends the note that `open_head` or `open_oldest` opens, and tells how its transaction ended. Begin with
+//! caller sends the note that `open_head` or `open_oldest` opens, and tells how its transaction ended. Up to a stated number of
+//! notes are open at once. Begin with
 //! `NoteLine::new`, then `add`, `row_for` and the row's effect. `CountedLine` is such a line with how many of its notes were answered
 //! and how many dropped, which it counts as they end, so that no call goes through all notes; it adds no rule.
 #![tactic(auto)]
@@ -12,6 +13,7 @@ mod counted_line;
 mod fate;
 pub mod laws;
 mod line;
+mod open_notes;
 mod told;
 pub mod worked;
 

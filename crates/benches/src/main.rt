@@ -45,7 +45,12 @@ fn measure_part(alloc: Global, what: &str, words: &[String]) -> Result<u64> {
             second.parse::<u64>()?,
             third.parse::<u64>()?,
         ),
-        "planner" => moves::measure(alloc, first.parse::<u8>()?, second.parse::<u64>()?),
+        "planner" => moves::measure(
+            alloc,
+            first.parse::<u8>()?,
+            second.parse::<u64>()?,
+            third.parse::<u8>()?,
+        ),
         _ => bail!("there is no such measurement"),
     }
 }
@@ -88,7 +93,7 @@ fn measure_each<R: Net<Listener = TcpListener, Stream = TcpStream> + Threads + C
 ) -> Result<u64> {
     let items = item::measure(alloc, "decode", "list", 2)?;
     let notes = notes::measure(alloc, 3, 10, 2)?;
-    let moves = moves::measure(alloc, 25, 4)?;
+    let moves = moves::measure(alloc, 25, 4, 8)?;
     let kept = cut::measure(alloc, 7, 1000, 1)?;
     let answers = links::measure_twice(rt)?;
     Ok(

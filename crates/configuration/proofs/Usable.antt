@@ -1,4 +1,4 @@
--- The recipes that are taken have routes for the tool, of one step in version 1.
+-- The recipes that are taken have routes for the tool.
 use Rattle.std.proofs.Common.{◌≡◌, ◌≤◌, ℕ, suc, nat_eq, nat_le, ◌==◌, Bool, true, false, ◌&&◌, ◌||◌, if◌then◌else◌, List, [], ◌∷◌, ◌++◌, codes, length, Option, Some, None, option_and_then, option_map, refl, sym, ap, subst, ◌∙◌, arith}
 use Rattle.std.specs.List.{list_any, list_all}
 use Rattle.std.proofs.lemmas.Bool.{and_parts, and_from, or_right}
@@ -7,7 +7,7 @@ use Rattle.std.proofs.lemmas.List.Folds.{list_all-append}
 use Rattle.std.proofs.lemmas.Nat.Bits.{bit_at_ones}
 use Rattle.std.proofs.lemmas.Option.{option_and_then_some}
 use Rattle.toml.specs.Data.{Data, Items, no_items, item, Members, as_table, get_member}
-use Rattle.tool_events.specs.Configs.{has_one_of, is_usable, are_usable, have_one_step}
+use Rattle.tool_events.specs.Configs.{has_one_of, is_usable, are_usable}
 use Rattle.tool_tasks.specs.Chambers.{last_chamber, has_chamber, chamber_set, chambers_to}
 use Rattle.tool_tasks.specs.Recipes.{most_recipes}
 use Rattle.tool_tasks.specs.Routes.{most_steps, rises}
@@ -182,15 +182,3 @@ taken_pass test version chambers default rs key ms each before e = ap (list_all 
 pub taken_usable : (version chambers : ℕ) (default rs : List Recipe) (key : List ℕ) (ms : Members) → chambers ≤ last_chamber → are_usable chambers default ≡ true → rs ≡ taken default (said_at (recipes version chambers) key ms) → are_usable chambers rs ≡ true
 taken_usable version chambers default rs key ms few usable e =
     taken_pass (is_usable chambers) version chambers default rs key ms (recipe_passes (is_usable chambers) version chambers (λ name d route q. route_usable version chambers name d route few q)) usable e
-
--- those of version 1 have one step, where those by default have
-pub taken_one_step : (version chambers : ℕ) (default rs : List Recipe) (key : List ℕ) (ms : Members) → 1 ≤ version → version ≤ 1 → have_one_step default ≡ true → rs ≡ taken default (said_at (recipes version chambers) key ms) → have_one_step rs ≡ true
-taken_one_step version chambers default rs key ms least most one e =
-    taken_pass (λ r. length r.route == 1) version chambers default rs key ms (recipe_passes (λ r. length r.route == 1) version chambers each) one e
-  where
-    of : (d : Data) (route : List ℕ) (is_first : Bool) → is_first ≡ true → (if is_first then option_map (λ step. step ∷ []) (chambers_in chambers d) else route_in chambers d) ≡ Some route → (length route == 1) ≡ true
-    of d route true is e = let one = chambers_one_step chambers d route e in subst (λ (x : List ℕ). (length x == 1) ≡ true) one.2 refl
-    of d route false is e = absurd (cc)
-
-    each : (name : List ℕ) (d : Data) (route : List ℕ) → route_of version chambers d ≡ Some route → (length route == 1) ≡ true
-    each name d route e = let first : version ≡ 1 = omega (arith, least, most) in of d route (version == 1) (ap (λ v. v == 1) first) e

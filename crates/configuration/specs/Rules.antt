@@ -64,10 +64,9 @@ control_words =
     ∷ ((codes "online_remote", begin.OnlineRemote)
     ∷ [])))
 
--- The newest version that is read: 1 for now, since the tool's substrates count no steps of a route; all else is as version 2 wants
--- it (this tool's profile, configuration).
+-- the newest version that is read (this tool's profile, configuration)
 abbrev pub newest_version : ℕ
-newest_version = 1
+newest_version = 2
 
 -- the greatest number of chambers of a version (this tool's profile, configuration)
 abbrev pub most_chambers : ℕ → ℕ

@@ -2,7 +2,7 @@
 ghost use Rattle.std.specs.Prelude.{◌≡◌, ℕ, ◌≤◌, Bool, true, List, Option, length, IsTrue, Some};
 ghost use Rattle.toml.specs.View.{table_view};
 ghost use Rattle.tool_tasks.specs.Chambers.{last_chamber};
-ghost use Rattle.tool_events.specs.Configs.{are_usable, have_one_step, IsConfig};
+ghost use Rattle.tool_events.specs.Configs.{are_usable, IsConfig};
 ghost use Rattle.configuration.specs.Values.{is_plain};
 ghost use Rattle.configuration.specs.Recipes.{recipe_for_all};
 ghost use Rattle.configuration.specs.Rules.{number, text, truth, communication, control, streams, recipes, communication_words, control_words, most_chambers, most_ports, said_at, taken, Noted, broken_after, AreGiven, rules_for};
@@ -21,8 +21,8 @@ const NO_STREAMS: SpoolStreams = SpoolStreams {
     six: false,
 };
 
-// The newest version: 1 for now, since the tool's substrates count no steps of a route.
-const NEWEST_VERSION: u64 = 1;
+// The newest version.
+const NEWEST_VERSION: u64 = 2;
 
 // The last moment of the year 9999.
 const LAST_MOMENT: u64 = 25_245_561_599_999;
@@ -163,10 +163,8 @@ impl Reader<'_> {
         requires version { 1 ≤ version }
         requires chambers { chambers ≤ last_chamber }
         requires usable { are_usable chambers default ≡ true }
-        requires one_step { have_one_step default ≡ true }
         ensures value { result ≡ taken default (said_at (recipes version chambers) key.now (table_view self.now.table.now)) }
         ensures usable { are_usable chambers result ≡ true }
-        ensures one_step { version ≤ 1 → have_one_step result ≡ true }
         ensures broken { Noted broken.old broken.new rule key.now (said_at (recipes version chambers) key.now (table_view self.now.table.now)) }
     {
         let said = match value_at(self.table, key) {

@@ -1,7 +1,7 @@
 //! The reader of recipes.
 ghost use Rattle.std.specs.Prelude.{◌≡◌, ◌≤◌, true, [], Some, None, option_map, if◌then◌else◌};
 ghost use Rattle.tool_tasks.specs.Chambers.{last_chamber};
-ghost use Rattle.tool_events.specs.Configs.{are_usable, have_one_step};
+ghost use Rattle.tool_events.specs.Configs.{are_usable};
 ghost use Rattle.toml.specs.Data.{get_member};
 ghost use Rattle.toml.specs.View.{view, table_view, items_view};
 ghost use Rattle.configuration.specs.Recipes.{recipe_in, has_name, with_recipe, recipes_of, recipes_behind, recipe_for_all};
@@ -88,7 +88,6 @@ pub(crate) fn recipe_for_all(chambers: u8) -> Recipes
     requires { chambers ≤ last_chamber }
     ensures value { result ≡ recipe_for_all chambers }
     ensures usable { 1 ≤ chambers → are_usable chambers result ≡ true }
-    ensures one_step { have_one_step result ≡ true }
 {
     let mut recipes = Recipes::none();
     recipes.push(Recipe {

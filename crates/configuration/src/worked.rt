@@ -55,9 +55,10 @@ pub fn each_version_has_its_limits()
     ensures five_ports { broken_after None (rules 2 2) (of_key (codes "ports") (number 5)) ≡ Some (fault.Rule 8 (codes "ports")) }
 {}
 
-/// Rule 1 takes version 1 alone for now, so that a text of version 2 is refused by it.
+/// Rule 1 takes versions 1 and 2 alone.
 #[tactic(auto, unfolding(crate::specs::Rules::rules))]
-pub fn version_2_is_not_taken_yet()
+pub fn a_third_version_breaks_rule_1()
     ensures first { least_broken (of_key (codes "version") (number 1)) ≡ None }
-    ensures second { least_broken (of_key (codes "version") (number 2)) ≡ Some (fault.Rule 1 (codes "version")) }
+    ensures second { least_broken (of_key (codes "version") (number 2)) ≡ None }
+    ensures third { least_broken (of_key (codes "version") (number 3)) ≡ Some (fault.Rule 1 (codes "version")) }
 {}

@@ -22,10 +22,6 @@ impl Tools for Program {
         ToldCore::under(alloc, configuration)
     }
 
-    fn with_plant(&self, alloc: Global, chambers: u8, ports: u8) -> Option<ToldCore> {
-        ToldCore::with_plant(alloc, chambers, ports)
-    }
-
     fn run<S: Source, K: Sink>(
         &self,
         alloc: Global,

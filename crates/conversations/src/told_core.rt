@@ -1,8 +1,5 @@
 //! The core, as tests tell it events and ask it. Its contracts are long, so each of its calls stands in one function without a clause.
 
-ghost use Rattle.tool_events.specs.Configs.{IsConfig};
-
-use crate::plants::with_plant;
 use configuration::read_config;
 use event_reports::Values;
 use gem_ids::Moment;
@@ -10,7 +7,7 @@ use item_model::Item;
 use std::alloc::Global;
 use test_runs::Tool;
 use tool_core::{Core, Recorder};
-use tool_events::{Answer, Config, Event, PostFault};
+use tool_events::{Answer, Event, PostFault};
 
 /// A core.
 #[derive(Drop)]
@@ -22,28 +19,11 @@ impl ToldCore {
     /// A core under the configuration that a text says. None where none says it, or there is no memory.
     pub fn under(alloc: Global, text: &str) -> Option<ToldCore> {
         match read_config(alloc, text.as_bytes()) {
-            Ok(config) => ToldCore::open(alloc, &config),
+            Ok(config) => Some(ToldCore {
+                core: Core::open(alloc, &config).ok()?,
+            }),
             Err(_) => None,
         }
-    }
-
-    /// A core of a tool with so many chambers, each of which can do the one step of its recipe R1, and so many ports. None where no tool
-    /// has so many, or there is no memory.
-    pub fn with_plant(alloc: Global, chambers: u8, ports: u8) -> Option<ToldCore> {
-        let text = b"communication = \"communicating\"\n";
-        let Ok(config) = read_config(alloc, text.as_slice()) else {
-            return None;
-        };
-        let config = with_plant(&config, chambers, ports)?;
-        ToldCore::open(alloc, &config)
-    }
-
-    fn open(alloc: Global, config: &Config) -> Option<ToldCore>
-        requires { IsConfig config.now }
-    {
-        Some(ToldCore {
-            core: Core::open(alloc, config).ok()?,
-        })
     }
 }
 

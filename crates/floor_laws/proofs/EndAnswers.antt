@@ -1,5 +1,5 @@
--- The rows of table 16 by which commands end, and modules go down and come up, keep what holds; behind a Process that ended no open command
--- names its substrate.
+-- The rows of table 16 by which commands end, but for Done of a Process, and those by which modules go down and come up keep what holds;
+-- behind a Process that ended no open command names its substrate.
 use Rattle.std.proofs.Common.{◌≡◌, ℕ, Bool, true, List, [], ◌∷◌, Option, Some, None, option_map, refl, sym, ◌∙◌, ap}
 use Rattle.gem_tables.specs.Table.{firing, is_one_of}
 use Rattle.gem_tables.proofs.Rows.{one_of_cases}
@@ -37,7 +37,7 @@ pub down_not : (c : Command) → down ≡ busy c → ⊥
 down_not c e = cc
 
 -- behind a row that closes it all holds
-turned_sound : (f : ToolFloor) → Sound f → (m row : ℕ) (x : ToolModule) → module_at m f.modules ≡ Some x → (state : Module) → ((c : Command) → state ≡ busy c → ⊥) → module_of (Some (module_behind row x)) f.places ≡ state → Sound (with_module m (module_behind row) f)
+pub turned_sound : (f : ToolFloor) → Sound f → (m row : ℕ) (x : ToolModule) → module_at m f.modules ≡ Some x → (state : Module) → ((c : Command) → state ≡ busy c → ⊥) → module_of (Some (module_behind row x)) f.places ≡ state → Sound (with_module m (module_behind row) f)
 turned_sound f sound m row x here state not_busy is = record {
   base = module_base m (module_behind row) f sound.base;
   ports = sound.ports;
@@ -58,14 +58,14 @@ process_unnamed f sound m row c fetched here state not_busy is sub recipe q =
 
 -- ---- each row that an input fires
 
--- rows 5 to 10, where they start
-pub module_row_sound : (f : ToolFloor) (m row : ℕ) → floor_starts (firing 16 m row) f ≡ true → is_one_of (5 ∷ 6 ∷ 7 ∷ 8 ∷ 9 ∷ 10 ∷ []) row ≡ true → Sound f → Sound (floor_fired (firing 16 m row) f)
+-- rows 5, 6 and 8 to 10, where they start
+pub module_row_sound : (f : ToolFloor) (m row : ℕ) → floor_starts (firing 16 m row) f ≡ true → is_one_of (5 ∷ 6 ∷ 8 ∷ 9 ∷ 10 ∷ []) row ≡ true → Sound f → Sound (floor_fired (firing 16 m row) f)
 module_row_sound f m row starts one sound =
-    one_of_cases (λ (r : ℕ). floor_starts (firing 16 m r) f ≡ true → Sound (floor_fired (firing 16 m r) f)) (5 ∷ 6 ∷ 7 ∷ 8 ∷ 9 ∷ 10 ∷ []) row (
+    one_of_cases (λ (r : ℕ). floor_starts (firing 16 m r) f ≡ true → Sound (floor_fired (firing 16 m r) f)) (5 ∷ 6 ∷ 8 ∷ 9 ∷ 10 ∷ []) row (
       (λ s. row_5 (planned m f) (module_at m f.modules) refl s),
       (
         (λ s. row_6 (planned m f) (module_at m f.modules) refl s),
-        ((λ s. closes 7 idle_7 (module_at m f.modules) refl s), ((λ s. closes 8 down_8 (module_at m f.modules) refl s), ((λ s. closes 9 down_9 (module_at m f.modules) refl s), ((λ s. closes 10 idle_10 (module_at m f.modules) refl s), tt)))),
+        ((λ s. closes 8 down_8 (module_at m f.modules) refl s), ((λ s. closes 9 down_9 (module_at m f.modules) refl s), ((λ s. closes 10 idle_10 (module_at m f.modules) refl s), tt))),
       ),
     )
     one starts
@@ -94,16 +94,11 @@ module_row_sound f m row starts one sound =
       aligns (task.Align sub) q w = align_sound f sound m c fetched at sub q
       aligns (task.Process sub recipe) q w = absurd (cc)
 
-    -- rows 7 to 10: what the module had open is closed, and it isn't Busy then
+    -- rows 8 to 10: what the module had open is closed, and it isn't Busy then
     closes : (row : ℕ) → ((x : ToolModule) → move_starts row (planned m f) (Some x) ≡ true → (d : Command) → module_of (Some (module_behind row x)) f.places ≡ busy d → ⊥) → (o : Option ToolModule) → module_at m f.modules ≡ o → move_starts row (planned m f) o ≡ true
         → Sound (with_module m (module_behind row) f)
     closes row other None at e = absurd (cc)
     closes row other (Some x) at e = turned_sound f sound m row x at (module_of (Some (module_behind row x)) f.places) (other x e) refl
-
-    -- Done of Process
-    idle_7 : (x : ToolModule) → move_starts 7 (planned m f) (Some x) ≡ true → (d : Command) → module_of (Some (module_behind 7 x)) f.places ≡ busy d → ⊥
-    idle_7 (Busy c fetched) e d = idle_not_busy d
-    idle_7 _ e d = absurd (cc)
 
     -- Failed
     down_8 : (x : ToolModule) → move_starts 8 (planned m f) (Some x) ≡ true → (d : Command) → module_of (Some (module_behind 8 x)) f.places ≡ busy d → ⊥

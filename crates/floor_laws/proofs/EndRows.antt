@@ -1,24 +1,26 @@
 -- The rows of a substrate keep what holds: those of transport, and those of processing that are not of an answer or of `lost`.
-use Rattle.std.proofs.Common.{◌≡◌, ℕ, Bool, true, false, not, ◌&&◌, ◌||◌, [], ◌∷◌, Option, Some, None, refl, sym, ◌∙◌, ap, subst}
+use Rattle.std.proofs.Common.{◌≡◌, ℕ, ◌==◌, Bool, true, false, not, ◌&&◌, ◌||◌, [], ◌∷◌, Option, Some, None, refl, sym, ◌∙◌, ap, subst}
 use Rattle.std.specs.List.{list_any}
-use Rattle.std.proofs.lemmas.Bool.{and_parts, not-true}
+use Rattle.std.proofs.lemmas.Bool.{and_parts, not-true, true≢false}
 use Rattle.gem_tables.specs.Table.{firing, after, is_one_of, is_among, may_fire, first_itself}
 use Rattle.gem_tables.proofs.Rows.{one_of_cases, ready_row, ready_may_fire}
 use Rattle.gem_ids.specs.declared.numbers.LocId.{LocId}
 use Rattle.gem_ids.specs.declared.numbers.LocId.TheVariants.{Slot, Aligner, Arm, Chamber}
 use Rattle.substrate.specs.Locations.{is_work_place}
 use Rattle.substrate.specs.Places.{substrate_named}
+use Rattle.substrate.specs.Record.{is_in_process}
 use Rattle.substrate.specs.Tables.{processing_number, processing_table}
 use Rattle.substrate.specs.declared.record.Processing.{Processing}
 use Rattle.substrate.specs.declared.record.Processing.TheVariants as processing
 use Rattle.substrate.specs.declared.registered.Registered.{Registered}
+use Rattle.process_job.specs.declared.record.JobState.{JobState}
 use Rattle.floor_model.specs.declared.tracked.Substrate.{Substrate}
 use Rattle.floor_model.specs.Floor.{ToolFloor, substrate_numbered}
 use Rattle.floor_model.specs.Jobs.{job_of, is_job_so, is_stopping, is_aborting}
 use Rattle.floor_model.specs.Machines.{substrate_starts, substrate_ready, substrate_moves, with_moved, processing_machine, floor_starts, floor_fired}
 use Rattle.floor_model.specs.Naming.{module_names, processes}
 use Rattle.floor_model.specs.Substrates.{is_outside, is_at_work, is_in_slot}
-use Rattle.floor_model.specs.Wants.{substrate_wants}
+use Rattle.floor_model.specs.Wants.{is_between, is_outside_of, substrate_wants}
 use Rattle.floor_model.proofs.Keeping.{creation_same}
 use Rattle.floor_moves.specs.Floor.{slot, chamber, is_finished, named}
 use Rattle.floor_moves.proofs.Agreeing.{agree-keeps}
@@ -47,13 +49,14 @@ pub is_needing : (p : Processing) → is_among processing_number (processing.Nee
 is_needing processing.NeedsProcessing e = refl
 is_needing _ e = absurd (cc)
 
--- the substrate goes to a state that may be
-worked_sound : (f : ToolFloor) (n row : ℕ) (s : Substrate) (state : ℕ) → substrate_numbered n f.substrates ≡ Some s → processing_number (after processing_number processing_table row s.states.processing) ≡ state → MayWork n state (picture f) → Sound f → Sound (with_moved 13 row n f)
-worked_sound f n row s state known goes may sound = record {
+-- the substrate goes to a state that may be, by a row that does no step
+worked_sound : (f : ToolFloor) (n row : ℕ) (s : Substrate) (state : ℕ) → substrate_numbered n f.substrates ≡ Some s → (row == 3) ≡ false → processing_number (after processing_number processing_table row s.states.processing) ≡ state → MayWork n state (picture f) → Sound f
+    → Sound (with_moved 13 row n f)
+worked_sound f n row s state known other goes may sound = record {
   base = changed_base n (substrate_moves 13 row) (moves_leaves 13 row) f sound.base;
   ports = sound.ports;
   unloading = sound.unloading;
-  valid = agree-keeps _ _ (processing_agrees f n row s known) (worked-keeps (picture f) n _ (subst (λ (k : ℕ). MayWork n k (picture f)) (sym goes) may) sound.valid);
+  valid = agree-keeps _ _ (processing_agrees f n row s known (λ is. absurd (true≢false (sym is ∙ other)))) (worked-keeps (picture f) n _ (subst (λ (k : ℕ). MayWork n k (picture f)) (sym goes) may) sound.valid);
 }
 
 module _ (f : ToolFloor) (n : ℕ) (sound : Sound f) (s : Substrate) (known : substrate_numbered n f.substrates ≡ Some s) (needs : s.states.processing ≡ processing.NeedsProcessing) where
@@ -83,12 +86,12 @@ module _ (f : ToolFloor) (n : ℕ) (sound : Sound f) (s : Substrate) (known : su
 
   -- row 2
   begins : list_any (processes s.sub) f.modules ≡ true → Sound (with_moved 13 2 n f)
-  begins processed_now = worked_sound f n 2 s 1 known (goes_to 2) (may_begin processed_now) sound
+  begins processed_now = worked_sound f n 2 s 1 known refl (goes_to 2) (may_begin processed_now) sound
 
   -- row 5
   skips : list_any (module_names s.sub) f.modules ≡ false → Sound (with_moved 13 5 n f)
   skips none =
-      worked_sound f n 5 s 7 known (goes_to 5) (record {
+      worked_sound f n 5 s 7 known refl (goes_to 5) (record {
         stays = λ t. refl;
         picked = λ m p k c i t. absurd (let b = busy_names f sound.base sound.valid.commands n s known m c i (ap named t) in cc);
         processed = λ m c i t. absurd (let b = busy_names f sound.base sound.valid.commands n s known m c i (ap named t) in cc);
@@ -96,6 +99,20 @@ module _ (f : ToolFloor) (n : ℕ) (sound : Sound f) (s : Substrate) (known : su
         needed = λ z. absurd (cc);
       }) sound
 
+-- ---- rows 6 and 7, of one that is outside
+
+-- they start where it isn't finished
+abbrev is_unfinished : Processing → Bool
+is_unfinished p = is_among processing_number (processing.NeedsProcessing ∷ processing.InProcess ∷ []) p
+
+-- where it ends behind a row that goes from both states to one
+goes_from_both : (row state : ℕ) → processing_number (after processing_number processing_table row processing.NeedsProcessing) ≡ state → processing_number (after processing_number processing_table row processing.InProcess) ≡ state
+    → (p : Processing) → is_unfinished p ≡ true → processing_number (after processing_number processing_table row p) ≡ state
+goes_from_both row state needing running processing.NeedsProcessing e = needing
+goes_from_both row state needing running processing.InProcess e = running
+goes_from_both row state needing running _ e = absurd (cc)
+
+module _ (f : ToolFloor) (n : ℕ) (sound : Sound f) (s : Substrate) (known : substrate_numbered n f.substrates ≡ Some s) where
   -- one that is outside has no place in a slot
   not_in_slot : is_outside s f.places ≡ true → (p k : ℕ) → (picture f).place_of n ≡ Some (slot p k) → ⊥
   not_in_slot out p k at = of (substrate_named s.sub f.places.held) refl out where
@@ -109,16 +126,34 @@ module _ (f : ToolFloor) (n : ℕ) (sound : Sound f) (s : Substrate) (known : su
     of None q w = cc
     of (Some r) q w = by r.at w (sym (place_is f sound.base s.sub r q) ∙ ap (place_in f.places) (number_is f sound.base n s r known q) ∙ at)
 
-  -- rows 6 and 7
-  ends : (row state : ℕ) → processing_number (after processing_number processing_table row processing.NeedsProcessing) ≡ state → is_finished state ≡ true → is_outside s f.places ≡ true → list_any (processes s.sub) f.modules ≡ false → Sound (with_moved 13 row n f)
-  ends row state goes finished out none =
-      worked_sound f n row s state known (goes_to row ∙ goes) (record {
+  -- it ends where no open Process names it
+  ends : (row state : ℕ) → (row == 3) ≡ false → processing_number (after processing_number processing_table row s.states.processing) ≡ state → is_finished state ≡ true → is_outside s f.places ≡ true → list_any (processes s.sub) f.modules ≡ false → Sound (with_moved 13 row n f)
+  ends row state other goes finished out none =
+      worked_sound f n row s state known other goes (record {
         stays = λ t. finished;
         picked = λ m p k c i t. absurd (not_in_slot out p k (sound.valid.commands.picks m n (slot p k) c i t).stands);
         processed = λ m c i t. absurd (let b = busy_processes f sound.base sound.valid.commands n s known m c i t in cc);
         in_slot = λ p k at u. absurd (cc);
         needed = λ z. absurd (let needs = ap is_finished z in cc);
       }) sound
+
+  -- Where one of them starts none does: row 2, which is the lesser, would start where it NEEDS PROCESSING, and IN PROCESS it is between two
+  -- steps.
+  none_processes : (p : Processing) → s.states.processing ≡ p → is_unfinished p ≡ true → is_between s f ≡ true → floor_starts (firing 13 n 2) f ≡ false → list_any (processes s.sub) f.modules ≡ false
+  none_processes processing.NeedsProcessing q among between e =
+      sym (ap (λ (o : Option Substrate). substrate_starts processing_number processing_table (λ s. s.processing) 2 o f) known ∙ ap (λ (p : Processing). may_fire processing_number (λ want. substrate_wants want s f) processing_table 2 p) q) ∙ e
+  none_processes processing.InProcess q among between e =
+      not-true (list_any (processes s.sub) f.modules) (sym (ap (λ (p : Processing). not (is_in_process p && list_any (processes s.sub) f.modules)) q) ∙ between)
+  none_processes _ q among between e = absurd (cc)
+
+  -- so each of them keeps what holds
+  stops : (row state : ℕ) (test : JobState → Bool) → (row == 3) ≡ false → processing_number (after processing_number processing_table row processing.NeedsProcessing) ≡ state → processing_number (after processing_number processing_table row processing.InProcess) ≡ state
+      → is_finished state ≡ true → (is_unfinished s.states.processing && is_outside_of test s f) ≡ true → floor_starts (firing 13 n 2) f ≡ false → Sound (with_moved 13 row n f)
+  stops row state test other needing running finished starts none =
+      let w = and_parts (is_unfinished s.states.processing) (is_outside_of test s f) starts in
+      let u = and_parts (is_outside s f.places && is_job_so test (job_of s f.jobs)) (is_between s f) w.1 in
+      let out = and_parts (is_outside s f.places) (is_job_so test (job_of s f.jobs)) u.0 in
+      ends row state other (goes_from_both row state needing running s.states.processing w.0) finished out.0 (none_processes s.states.processing refl w.0 u.1 none)
 
 -- Row 1 in any state; the others where they start: 6 and 7 where row 2, which is the lesser, doesn't.
 pub processing_sound : (f : ToolFloor) (n row : ℕ) → floor_starts (firing 13 n row) f ≡ true → is_one_of (1 ∷ 2 ∷ 5 ∷ 6 ∷ 7 ∷ []) row ≡ true
@@ -145,26 +180,13 @@ processing_sound f n row starts one first sound =
         let x = and_parts (is_in_slot s f.places) (not (list_any (module_names s.sub) f.modules)) u.1 in
         skips f n sound s q (is_needing s.states.processing w.0) (not-true (list_any (module_names s.sub) f.modules) x.1)
 
-    -- where row 2 doesn't start, no open Process names it
-    none_processes : (s : Substrate) → substrate_numbered n f.substrates ≡ Some s → s.states.processing ≡ processing.NeedsProcessing → floor_starts (firing 13 n 2) f ≡ false → list_any (processes s.sub) f.modules ≡ false
-    none_processes s q needs e =
-        sym (ap (λ (o : Option Substrate). substrate_starts processing_number processing_table (λ s. s.processing) 2 o f) q ∙ ap (λ (p : Processing). may_fire processing_number (λ want. substrate_wants want s f) processing_table 2 p) needs) ∙ e
-
     row_6 : (o : Option Substrate) → substrate_numbered n f.substrates ≡ o → substrate_starts processing_number processing_table (λ s. s.processing) 6 o f ≡ true → floor_starts (firing 13 n 2) f ≡ false → Sound (with_moved 13 6 n f)
     row_6 None q e none = absurd (cc)
-    row_6 (Some s) q e none =
-        let w = and_parts (is_among processing_number (processing.NeedsProcessing ∷ []) s.states.processing) (is_outside s f.places && is_job_so is_stopping (job_of s f.jobs)) e in
-        let u = and_parts (is_outside s f.places) (is_job_so is_stopping (job_of s f.jobs)) w.1 in
-        let needs = is_needing s.states.processing w.0 in
-        ends f n sound s q needs 6 4 refl refl u.0 (none_processes s q needs none)
+    row_6 (Some s) q e none = stops f n sound s q 6 4 is_stopping refl refl refl refl e none
 
     row_7 : (o : Option Substrate) → substrate_numbered n f.substrates ≡ o → substrate_starts processing_number processing_table (λ s. s.processing) 7 o f ≡ true → floor_starts (firing 13 n 2) f ≡ false → Sound (with_moved 13 7 n f)
     row_7 None q e none = absurd (cc)
-    row_7 (Some s) q e none =
-        let w = and_parts (is_among processing_number (processing.NeedsProcessing ∷ []) s.states.processing) (is_outside s f.places && is_job_so is_aborting (job_of s f.jobs)) e in
-        let u = and_parts (is_outside s f.places) (is_job_so is_aborting (job_of s f.jobs)) w.1 in
-        let needs = is_needing s.states.processing w.0 in
-        ends f n sound s q needs 7 3 refl refl u.0 (none_processes s q needs none)
+    row_7 (Some s) q e none = stops f n sound s q 7 3 is_aborting refl refl refl refl e none
 
 -- the row that is ready by itself at a substrate
 pub processing_ready_sound : (f : ToolFloor) (n row : ℕ) → processing_machine.ready n f ≡ Some row → Sound f → Sound (floor_fired (firing 13 n row) f)

@@ -10,18 +10,18 @@ use Rattle.robot_moves.specs.declared.module.Module.{Module}
 use Rattle.robot_moves.specs.declared.module.Module.TheVariants.{Idle, Busy, Down}
 use Rattle.robot_moves.specs.Modules.{module_at, is_up, is_open}
 use Rattle.floor_model.specs.Floor.{ToolFloor, substrate_numbered}
-use Rattle.floor_model.specs.Machines.{floor_starts, floor_fired}
+use Rattle.floor_model.specs.Machines.{floor_starts, floor_fired, floor_least}
 use Rattle.floor_model.specs.Modules.{is_transfer, is_align, is_process, move_starts, number_named}
 use Rattle.floor_model.specs.Signals.{at_module, done_row, at_processed, processed_rows, is_of_aborting, done_processing, at_done, done_processed, done_at, done_rows, closing_at, closing_rows, can_be_lost, lost_at, lost_rows}
-use Rattle.floor_model.specs.Views.{planned}
+use Rattle.floor_model.specs.Views.{planned, goes_on}
 use Rattle.floor_moves.specs.Valid.{IsUnnamed}
 use Rattle.place_laws.specs.Picture.{picture}
 use Rattle.place_laws.specs.Sound.{Sound}
 use Rattle.floor_laws.specs.Rows.{one_listed, listed}
 use Rattle.floor_laws.proofs.EndAnswers.{down_not, process_unnamed, module_row_sound}
-use Rattle.floor_laws.proofs.EndProcess.{finish_sound}
+use Rattle.floor_laws.proofs.EndProcess.{done_unnamed, process_sound, finish_sound}
+use Rattle.floor_laws.proofs.EndRunning.{running_there}
 use Rattle.floor_laws.proofs.EndLost.{lost_sound}
-use Rattle.floor_moves.proofs.Moving.{idle_not_busy}
 
 -- ---- rows one behind the other
 
@@ -72,30 +72,37 @@ done_one n f = of (is_of_aborting (substrate_numbered n f.substrates) f) where
 
 module _ (m : ℕ) (f : ToolFloor) (sound : Sound f) (c : Command) (fetched : Bool) (here : module_at m f.modules ≡ Some (Busy c fetched)) where
   -- the row of a task that is none of a Process
-  alone : (row : ℕ) → floor_starts (firing 16 m row) f ≡ true → is_one_of (5 ∷ 6 ∷ 7 ∷ 8 ∷ 9 ∷ 10 ∷ []) row ≡ true → Sound (listed (firing 16 m row ∷ []) f)
+  alone : (row : ℕ) → floor_starts (firing 16 m row) f ≡ true → is_one_of (5 ∷ 6 ∷ 8 ∷ 9 ∷ 10 ∷ []) row ≡ true → Sound (listed (firing 16 m row ∷ []) f)
   alone row starts one = subst Sound (sym (listed_starts (firing 16 m row) f starts)) (module_row_sound f m row starts one sound)
 
   -- a Process ended by one of rows 7 to 9, and the row of its substrate follows
-  followed : (row n next : ℕ) → floor_starts (firing 16 m row) f ≡ true → is_one_of (5 ∷ 6 ∷ 7 ∷ 8 ∷ 9 ∷ 10 ∷ []) row ≡ true → is_one_of (3 ∷ 4 ∷ []) next ≡ true → IsUnnamed n (picture (floor_fired (firing 16 m row) f))
+  followed : (row n next : ℕ) → floor_starts (firing 16 m row) f ≡ true → Sound (floor_fired (firing 16 m row) f) → is_one_of (3 ∷ 4 ∷ []) next ≡ true → IsUnnamed n (picture (floor_fired (firing 16 m row) f))
       → Sound (listed (firing 16 m row ∷ firing 13 n next ∷ []) f)
-  followed row n next starts one ends unnamed =
+  followed row n next starts kept ends unnamed =
       subst (λ (g : ToolFloor). Sound (one_listed (firing 13 n next) g)) (sym (listed_starts (firing 16 m row) f starts))
-      (finish_listed n next (floor_fired (firing 16 m row) f) ends unnamed (module_row_sound f m row starts one sound))
+      (finish_listed n next (floor_fired (firing 16 m row) f) ends unnamed kept)
 
-  -- the rows of Done, by the task
-  of_task : (t : Task) → c.task ≡ t → Sound (listed (at_module (done_row t) m ++ done_processed t f) f)
-  of_task (task.Pick sub from) q = alone 5 (done_starts m f c fetched here (task.Pick sub from) q) refl
-  of_task (task.Place sub to) q = alone 5 (done_starts m f c fetched here (task.Place sub to) q) refl
-  of_task (task.Align sub) q = alone 6 (done_starts m f c fetched here (task.Align sub) q) refl
-  of_task (task.Process sub recipe) q =
-      let w = process_unnamed f sound m 7 c fetched here _ idle_not_busy refl sub recipe q in
+  -- behind Done of a Process the row of its substrate follows, where that doesn't go on
+  step_done : (n : ℕ) → floor_starts (firing 16 m 7) f ≡ true → Sound (floor_fired (firing 16 m 7) f) → IsUnnamed n (picture (floor_fired (firing 16 m 7) f))
+      → (b : Bool) → Sound (listed (firing 16 m 7 ∷ (if b then [] else firing 13 n (done_processing n f) ∷ [])) f)
+  step_done n starts kept unnamed true = subst Sound (sym (listed_starts (firing 16 m 7) f starts)) kept
+  step_done n starts kept unnamed false = followed 7 n (done_processing n f) starts kept (done_one n f) unnamed
+
+  -- the rows of Done, by the task, where no row is ready before it
+  of_task : floor_least f ≡ None → (t : Task) → c.task ≡ t → Sound (listed (at_module (done_row t) m ++ done_processed t f) f)
+  of_task rest (task.Pick sub from) q = alone 5 (done_starts m f c fetched here (task.Pick sub from) q) refl
+  of_task rest (task.Place sub to) q = alone 5 (done_starts m f c fetched here (task.Place sub to) q) refl
+  of_task rest (task.Align sub) q = alone 6 (done_starts m f c fetched here (task.Align sub) q) refl
+  of_task rest (task.Process sub recipe) q =
+      let w = done_unnamed f m c fetched here sound sub recipe q in
+      let runs = running_there f sound rest m c fetched here sub recipe q w.0 w.1 in
       subst (λ (o : Option ℕ). Sound (listed (firing 16 m 7 ∷ at_done o f) f)) (sym w.1)
-      (followed 7 w.0 (done_processing w.0 f) (done_starts m f c fetched here (task.Process sub recipe) q) refl (done_one w.0 f) w.2)
+      (step_done w.0 (done_starts m f c fetched here (task.Process sub recipe) q) (process_sound f m c fetched here sub recipe q w.0 w.1 sound runs) w.2 (goes_on (substrate_numbered w.0 f.substrates) f))
 
   -- ---- Failed and Down
 
   -- the rows of a module that goes down, by the task that it had open
-  closed_task : (row : ℕ) → floor_starts (firing 16 m row) f ≡ true → is_one_of (5 ∷ 6 ∷ 7 ∷ 8 ∷ 9 ∷ 10 ∷ []) row ≡ true
+  closed_task : (row : ℕ) → floor_starts (firing 16 m row) f ≡ true → is_one_of (5 ∷ 6 ∷ 8 ∷ 9 ∷ 10 ∷ []) row ≡ true
       → ((sub recipe : List ℕ) → c.task ≡ task.Process sub recipe → (n : ℕ) × (number_named sub f.places ≡ Some n) × IsUnnamed n (picture (floor_fired (firing 16 m row) f)))
       → (t : Task) → c.task ≡ t → Sound (listed (at_module row m ++ processed_rows 4 t f) f)
   closed_task row starts one unnamed (task.Pick sub from) q = alone row starts one
@@ -103,7 +110,7 @@ module _ (m : ℕ) (f : ToolFloor) (sound : Sound f) (c : Command) (fetched : Bo
   closed_task row starts one unnamed (task.Align sub) q = alone row starts one
   closed_task row starts one unnamed (task.Process sub recipe) q =
       let w = unnamed sub recipe q in
-      subst (λ (o : Option ℕ). Sound (listed (firing 16 m row ∷ at_processed 4 o) f)) (sym w.1) (followed row w.0 4 starts one refl w.2)
+      subst (λ (o : Option ℕ). Sound (listed (firing 16 m row ∷ at_processed 4 o) f)) (sym w.1) (followed row w.0 4 starts (module_row_sound f m row starts one sound) refl w.2)
 
   -- those of Failed
   failed_task : Sound (listed (at_module 8 m ++ processed_rows 4 c.task f) f)
@@ -116,13 +123,13 @@ module _ (m : ℕ) (f : ToolFloor) (sound : Sound f) (c : Command) (fetched : Bo
 -- ---- by what the module is
 
 -- its open command is done
-pub done_sound : (number command : ℕ) (f : ToolFloor) → is_open command (module_at number f.modules) ≡ true → Sound f → Sound (listed (done_rows number f) f)
-done_sound number command f open_there sound = of (module_at number f.modules) refl open_there where
+pub done_sound : (number command : ℕ) (f : ToolFloor) → is_open command (module_at number f.modules) ≡ true → floor_least f ≡ None → Sound f → Sound (listed (done_rows number f) f)
+done_sound number command f open_there rest sound = of (module_at number f.modules) refl open_there where
   of : (o : Option Module) → module_at number f.modules ≡ o → is_open command o ≡ true → Sound (listed (done_at number o f) f)
   of None here e = absurd (cc)
   of (Some Idle) here e = absurd (cc)
   of (Some Down) here e = absurd (cc)
-  of (Some (Busy c fetched)) here e = of_task number f sound c fetched here c.task refl
+  of (Some (Busy c fetched)) here e = of_task number f sound c fetched here rest c.task refl
 
 -- its open command failed
 pub failed_sound : (number command : ℕ) (f : ToolFloor) → is_open command (module_at number f.modules) ≡ true → Sound f → Sound (listed (closing_rows 8 number f) f)

@@ -5,6 +5,7 @@ use Rattle.std.specs.Option.{option_or}
 use Rattle.std.proofs.lemmas.Bool.Decides.{Decides-eqb}
 use Rattle.gem_tables.specs.Table.{firing, is_one_of}
 use Rattle.gem_tables.specs.declared.firing.Firing.{Firing}
+use Rattle.gem_tables.proofs.Rows.{one_of_cases}
 use Rattle.gem_ids.specs.declared.numbers.LocId.{LocId}
 use Rattle.tool_tasks.specs.declared.task.Command.{Command}
 use Rattle.tool_tasks.specs.declared.task.Task.{Task}
@@ -20,7 +21,7 @@ use Rattle.floor_model.specs.Machines.{floor_starts, floor_fired, floor_least}
 use Rattle.floor_model.specs.Modules.{number_named}
 use Rattle.floor_model.specs.Signals.{at_module, done_row, at_processed, processed_rows, is_of_aborting, done_processing, at_done, done_processed, done_at, done_rows, closing_at, closing_rows, can_be_lost, lost_at, lost_rows}
 use Rattle.floor_model.specs.Substrates.{removed_where}
-use Rattle.floor_model.specs.Views.{planned}
+use Rattle.floor_model.specs.Views.{planned, goes_on}
 use Rattle.floor_model.proofs.Tables.{least_floor}
 use Rattle.floor_moves.specs.Floor.{arm}
 use Rattle.floor_moves.specs.OnePlace.{OnePlace}
@@ -32,6 +33,7 @@ use Rattle.floor_laws.specs.Moves.{Picked, Placed, DoneAt, LostAt}
 use Rattle.floor_laws.proofs.FloorInputs.{listed_either, listed_starts, done_starts, failed_starts, down_starts}
 use Rattle.floor_laws.proofs.ShopTables.{transfer_valid}
 use Rattle.floor_laws.proofs.EndAnswers.{module_row_sound}
+use Rattle.floor_laws.proofs.EndStepped.{one_place_done}
 use Rattle.floor_laws.proofs.GrowRows.{move_same, processing_same}
 use Rattle.floor_laws.proofs.GrowTransfer.{Transfers, pick_places, place_places}
 use Rattle.floor_laws.proofs.OpenCommands.{Opens, opens_same, opens_then, IsShut, shut_stays, open_given}
@@ -89,7 +91,10 @@ module _ (m : ℕ) (f : ToolFloor) (sound : Sound f) (c : Command) (fetched : Bo
   -- the row of what was processed
   processed : (o : Option ℕ) (g : ToolFloor) → (listed (at_done o f) g).places ≡ g.places
   processed None g = refl
-  processed (Some n) g = substrate_still n (done_processing n f) g (done_still n f)
+  processed (Some n) g = by (goes_on (substrate_numbered n f.substrates) f) where
+    by : (b : Bool) → (listed (if b then [] else firing 13 n (done_processing n f) ∷ []) g).places ≡ g.places
+    by true = refl
+    by false = substrate_still n (done_processing n f) g (done_still n f)
 
   -- each task
   by_task : (t : Task) → c.task ≡ t → DoneAt c f (listed (rows_of t) f)
@@ -211,7 +216,15 @@ one_place_sound f sound = one_place (picture f) sound.valid
 
 -- behind the row of a module that an input fires, before another follows
 pub one_place_behind : (f : ToolFloor) (m row : ℕ) → floor_starts (firing 16 m row) f ≡ true → is_one_of (5 ∷ 6 ∷ 7 ∷ 8 ∷ 9 ∷ 10 ∷ []) row ≡ true → Sound f → OnePlace (picture (floor_fired (firing 16 m row) f))
-one_place_behind f m row starts one sound = one_place_sound (floor_fired (firing 16 m row) f) (module_row_sound f m row starts one sound)
+one_place_behind f m row starts one sound =
+    one_of_cases (λ (r : ℕ). floor_starts (firing 16 m r) f ≡ true → OnePlace (picture (floor_fired (firing 16 m r) f))) (5 ∷ 6 ∷ 7 ∷ 8 ∷ 9 ∷ 10 ∷ []) row (
+      kept 5 refl,
+      (kept 6 refl, ((λ s. one_place_done f m s sound), (kept 8 refl, (kept 9 refl, (kept 10 refl, tt))))),
+    )
+    one starts
+  where
+    kept : (r : ℕ) → is_one_of (5 ∷ 6 ∷ 8 ∷ 9 ∷ 10 ∷ []) r ≡ true → floor_starts (firing 16 m r) f ≡ true → OnePlace (picture (floor_fired (firing 16 m r) f))
+    kept r is s = one_place_sound (floor_fired (firing 16 m r) f) (module_row_sound f m r s is sound)
 
 -- behind the first row of a removal
 pub one_place_vacated : (port : ℕ) (f : ToolFloor) → floor_starts (firing 4 port 5) f ≡ true → Sound f → OnePlace (picture (floor_fired (firing 4 port 5) f))

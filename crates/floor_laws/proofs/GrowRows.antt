@@ -21,7 +21,7 @@ use Rattle.substrate.specs.declared.record.Processing.{Processing}
 use Rattle.floor_model.specs.declared.tracked.Substrate.{Substrate}
 use Rattle.floor_model.specs.Floor.{ToolFloor, with_shop, substrate_numbered}
 use Rattle.floor_model.specs.Jobs.{job_does, found_job_does, frees, stops_carriers, gets_members}
-use Rattle.floor_model.specs.Modules.{issued, open_task, aligned_by, move_does, found_move}
+use Rattle.floor_model.specs.Modules.{issued, open_task, aligned_by, stepped_by, move_does, found_move}
 use Rattle.floor_model.specs.Machines.{floor_starts, floor_fired}
 use Rattle.floor_model.specs.Substrates.{reaches_verified, registers_found, without_carrier, substrate_does, found_does}
 use Rattle.floor_model.specs.Views.{planned}
@@ -85,13 +85,20 @@ aligned_same (Some (task.Place sub to)) f = refl
 aligned_same (Some (task.Align sub)) f = refl
 aligned_same (Some (task.Process sub recipe)) f = refl
 
+stepped_same : (t : Option Task) (f : ToolFloor) → (stepped_by t f).places ≡ f.places
+stepped_same None f = refl
+stepped_same (Some (task.Pick sub from)) f = refl
+stepped_same (Some (task.Place sub to)) f = refl
+stepped_same (Some (task.Align sub)) f = refl
+stepped_same (Some (task.Process sub recipe)) f = refl
+
 pub move_same : (row m : ℕ) (o : Option Move) (f : ToolFloor) → (row == 5) ≡ false → (found_move (row_of move_table row) m o f).places ≡ f.places
 move_same row m o f other = of (row_of move_table row) refl where
   of : (r : Option MoveRow) → row_of move_table row ≡ r → (found_move r m o f).places ≡ f.places
   of None is = refl
   of (Some r) is =
       let here = found_row (λ (x : MoveRow). (x.number == 5) ≡ false → (move_does x.does m o f).places ≡ f.places) move_table row r
-      ((λ k. issued_same m o f), ((λ k. issued_same m o f), ((λ k. issued_same m o f), ((λ k. issued_same m o f), ((λ k. absurd (cc)), ((λ k. aligned_same (open_task (module_at m f.modules)) f), ((λ k. refl), ((λ k. refl), ((λ k. refl), ((λ k. refl), tt)))))))))) is in
+      ((λ k. issued_same m o f), ((λ k. issued_same m o f), ((λ k. issued_same m o f), ((λ k. issued_same m o f), ((λ k. absurd (cc)), ((λ k. aligned_same (open_task (module_at m f.modules)) f), ((λ k. stepped_same (open_task (module_at m f.modules)) f), ((λ k. refl), ((λ k. refl), ((λ k. refl), tt)))))))))) is in
       here.0 (ap (λ (n : ℕ). n == 5) here.1 ∙ other)
 
 -- ---- each row

@@ -6,7 +6,7 @@ use Rattle.gem_ids.specs.declared.numbers.LocId.TheVariants.{Slot, Aligner, Arm,
 use Rattle.gem_ids.specs.declared.numbers.PortNo.{PortNo}
 use Rattle.gem_ids.specs.declared.numbers.SlotNo.{SlotNo}
 use Rattle.robot_moves.specs.Modules.{module_at, is_idle, chamber_module as chamber_number}
-use Rattle.robot_moves.specs.Moves.{free_target, may_leave, is_useful, best_pick}
+use Rattle.robot_moves.specs.Moves.{free_target, may_leave, is_next, is_useful, best_pick}
 use Rattle.robot_moves.specs.declared.module.Module.{Module}
 use Rattle.robot_moves.specs.declared.view.PlaceView.{PlaceView}
 use Rattle.robot_moves.proofs.Best.{best_is}
@@ -26,11 +26,11 @@ use Rattle.floor_laws.proofs.IssueRobot.{unnamed_by, idle_not_busy, one_place}
 -- ---- what may leave, by its place
 
 -- in a slot it is unfinished and may start; at the aligner, which is Idle, it is finished or aligned; in a chamber, which is Idle, it
--- is finished; it is not on the arm
+-- is finished, or that isn't in its next step; it is not on the arm
 pub record Leaves (ms : List Module) (w : PlaceView) (at : LocId) : Type 0 where
   pub from_slot : (p : PortNo) (k : SlotNo) → at ≡ Slot p k → (w.finished ≡ false) × (w.may_start ≡ true)
   pub from_aligner : at ≡ Aligner → (is_idle (module_at 2 ms) ≡ true) × ((w.finished || w.aligned) ≡ true)
-  pub from_chamber : (c : ℕ) → at ≡ Chamber c → (is_idle (module_at (chamber_number c) ms) ≡ true) × (w.finished ≡ true)
+  pub from_chamber : (c : ℕ) → at ≡ Chamber c → (is_idle (module_at (chamber_number c) ms) ≡ true) × ((w.finished || not (is_next w c)) ≡ true)
   pub not_arm : at ≡ Arm → ⊥
 
 leaves : (ms : List Module) (w : PlaceView) (at : LocId) → may_leave at ms w ≡ true → Leaves ms w at
@@ -53,11 +53,16 @@ leaves ms w Arm e = absurd (cc)
 leaves ms w (Chamber c) e = record {
   from_slot = λ q j is. absurd (cc);
   from_aligner = λ is. absurd (cc);
-  from_chamber = λ d is. subst (λ (i : ℕ). (is_idle (module_at (chamber_number i) ms) ≡ true) × (w.finished ≡ true)) (same d is) (and_parts (is_idle (module_at (chamber_number c) ms)) w.finished e);
+  from_chamber = λ d is. subst (λ (i : ℕ). (is_idle (module_at (chamber_number i) ms) ≡ true) × ((w.finished || not (is_next w i)) ≡ true)) (same d is) (and_parts (is_idle (module_at (chamber_number c) ms)) (w.finished || not (is_next w c)) e);
   not_arm = λ is. cc;
 } where
   same : (d : ℕ) → Chamber c ≡ Chamber d → c ≡ d
   same d is = cc
+
+-- what isn't finished is through with what isn't its next
+no_more : (finished next : Bool) → finished ≡ false → (finished || not next) ≡ true → next ≡ false
+no_more true next e is = absurd (cc)
+no_more false next e is = not_true next is
 
 -- what is something is this
 is_this : {A : Type 0} (o : Option A) → is_some o ≡ true → (x : A) × (o ≡ Some x)
@@ -85,7 +90,7 @@ module _ (f : ToolFloor) (b : Base f) (v : Valid (picture f)) (rests : is_idle (
     room = room_seen f b n w loc s (leaving_member n w at s e l) target;
     from_slot = slot_of at l;
     from_aligner = aligner_of at l;
-    from_chamber = chamber_of at l;
+    from_chamber = chamber_of at e l;
     not_arm = arm_of at l;
   } where
     slot_of : (x : LocId) → Leaves f.modules w x → (p k : ℕ) → loc_of x ≡ slot p k → is_finished ((picture f).processing n) ≡ false
@@ -99,9 +104,12 @@ module _ (f : ToolFloor) (b : Base f) (v : Valid (picture f)) (rests : is_idle (
     aligner_of Arm l is = absurd (cc)
     aligner_of (Chamber c) l is = absurd (cc)
 
-    chamber_of : (x : LocId) → Leaves f.modules w x → (c : ℕ) → loc_of x ≡ chamber c → IsThrough n c (picture f)
-    chamber_of (Chamber c) l d is unfinished = absurd (let done : is_finished ((picture f).processing n) ≡ true = s.finished ∙ (l.from_chamber c refl).1 in cc)
-    chamber_of _ l d is unfinished = absurd (cc)
+    chamber_of : (x : LocId) → w.at ≡ x → Leaves f.modules w x → (c : ℕ) → loc_of x ≡ chamber c → IsThrough n c (picture f)
+    chamber_of (Chamber c) e l d is unfinished =
+        let same : c ≡ d = cc in
+        let member = leaving_member n w (Chamber c) s e l in
+        s.next member d ∙ no_more w.finished (is_next w d) (sym s.finished ∙ unfinished) (subst (λ (i : ℕ). (w.finished || not (is_next w i)) ≡ true) same (l.from_chamber c refl).1)
+    chamber_of _ e l d is unfinished = absurd (cc)
 
     arm_of : (x : LocId) → Leaves f.modules w x → loc_of x ≡ arm → ⊥
     arm_of (Slot p k) l is = cc

@@ -6,7 +6,7 @@ use Rattle.gem_ids.specs.declared.numbers.LocId.{LocId}
 use Rattle.gem_ids.specs.declared.numbers.LocId.TheVariants.{Aligner, Arm, Chamber}
 use Rattle.tool_tasks.specs.declared.task.Task.TheVariants as task
 use Rattle.robot_moves.specs.Modules.{module_at, is_idle, chamber_module}
-use Rattle.robot_moves.specs.Moves.{holder, free_target, best_pick, move_by, place_move, pick_move, arm_move, robot_move, align_move, aligner_move, process_move, chamber_move}
+use Rattle.robot_moves.specs.Moves.{holder, is_next, free_target, best_pick, move_by, place_move, pick_move, arm_move, robot_move, align_move, aligner_move, process_move, chamber_move}
 use Rattle.robot_moves.specs.declared.view.PlaceView.{PlaceView}
 use Rattle.robot_moves.specs.declared.view.Move.{Move}
 use Rattle.records.proofs.Truth.{not_true}
@@ -89,22 +89,24 @@ module _ (f : ToolFloor) (b : Base f) (v : Valid (picture f)) where
   by_chamber : (c : ℕ) (move : Move) → chamber_move (chamber_module c) (views f) f.modules ≡ Some move → MayMove (chamber_module c) move
   by_chamber c move e =
       let parts = where_so (is_idle (module_at (chamber_module c) f.modules)) (process_move (chamber_module c) (holder (Chamber (chamber_module c - 2)) (views f))) move e in
-      let number : chamber_module c - 2 ≡ c = omega arith in
       of parts.0 (holder (Chamber c) (views f)) refl
       (subst (λ (d : ℕ). process_move (chamber_module c) (holder (Chamber d) (views f)) ≡ Some move) number parts.1)
     where
+      number : chamber_module c - 2 ≡ c
+      number = omega arith
+
       of : is_idle (module_at (chamber_module c) f.modules) ≡ true → (o : Option PlaceView) → holder (Chamber c) (views f) ≡ o → process_move (chamber_module c) o ≡ Some move → MayMove (chamber_module c) move
       of rests None q e = absurd (cc)
       of rests (Some w) q e =
-          let wanted = where_so (not w.finished && not w.in_process) (Some (move_by (chamber_module c) 4 (task.Process w.sub w.recipe))) move e in
-          let neither = and_parts (not w.finished) (not w.in_process) wanted.0 in
+          let wanted = where_so (not w.finished && is_next w (chamber_module c - 2)) (Some (move_by (chamber_module c) 4 (task.Process w.sub w.recipe))) move e in
+          let due = and_parts (not w.finished) (is_next w (chamber_module c - 2)) wanted.0 in
           let its = holder_seen f b (Chamber c) w q in
           let seen : IsSeen f its.0.0 w = its.0.1 in
           let given : Some (move_by (chamber_module c) 4 (task.Process w.sub w.recipe)) ≡ Some move = wanted.1 in
           let same : move_by (chamber_module c) 4 (task.Process w.sub w.recipe) ≡ move = cc in
           subst (λ (x : Move). MayMove (chamber_module c) x) same
           (subst (λ (n : ℕ). MayIssue (chamber_module c) (process n) (picture f)) (sym seen.number)
-          (may_process f b v its.0.0 c w seen its.1 (not_true w.finished neither.0) rests))
+          (may_process f b v its.0.0 c w seen its.1 (not_true w.finished due.0) (subst (λ (d : ℕ). is_next w d ≡ true) number due.1) rests))
 
   -- ---- all of them
 

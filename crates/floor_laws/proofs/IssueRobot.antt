@@ -91,7 +91,7 @@ module _ (f : ToolFloor) (b : Base f) (v : Valid (picture f)) (rests : is_idle (
           to_chamber = λ c is. let same : h.c ≡ c = cc in (
             subst (λ (i : ℕ). is_one_of (picture f).chambers i ≡ true) same within,
             s.aligned ∙ h.aligned,
-            λ unfinished. subst (λ (i : ℕ). is_one_of (next_step n (picture f)) i ≡ true) same (s.chambers (v.members.outside n (ap is_outside here)) h.c h.least h.most h.has),
+            λ unfinished. subst (λ (i : ℕ). is_one_of (next_step n (picture f)) i ≡ true) same (s.next (v.members.outside n (ap is_outside here)) h.c ∙ h.next),
           );
           not_arm = λ is. cc;
         }

@@ -1,14 +1,15 @@
--- Where a substrate is to go, by numbers: its own slot, the aligner, or a chamber of its recipe, each where it is empty and Idle.
-use Rattle.std.proofs.Common.{◌≡◌, ◌≤◌, ◌<◌, ◌⊎◌, inl, inr, ℕ, zero, suc, ◌+◌, ◌==◌, Bool, true, false, ◌||◌, ◌&&◌, not, if◌then◌else◌, List, [], ◌∷◌, length, map, Option, Some, None, option_map, slice_get, refl, ◌∙◌, ap, subst, arith}
+-- Where a substrate is to go, by numbers: its own slot, the aligner, or a chamber of its next step, each where it is empty and Idle.
+use Rattle.std.proofs.Common.{◌≡◌, ◌≤◌, ◌<◌, ◌⊎◌, inl, inr, ℕ, zero, suc, ◌+◌, ◌==◌, nat_le, Bool, true, false, ◌||◌, ◌&&◌, not, if◌then◌else◌, List, [], ◌∷◌, length, map, Option, Some, None, option_map, slice_get, refl, ◌∙◌, ap, subst, arith}
 use Rattle.std.specs.Option.{option_or}
 use Rattle.std.proofs.lemmas.Bool.{and_parts, or_right}
 use Rattle.std.proofs.lemmas.Bool.Decides.{Decides-eqb, nat_tests}
 use Rattle.gem_tables.specs.Table.{is_one_of}
+use Rattle.gem_tables.proofs.Rows.{both}
 use Rattle.gem_ids.specs.declared.numbers.LocId.{LocId}
 use Rattle.gem_ids.specs.declared.numbers.LocId.TheVariants.{Slot, Aligner, Arm, Chamber}
 use Rattle.robot_moves.specs.Modules.{module_at, chamber_module, is_idle}
 use Rattle.tool_tasks.specs.Chambers.{has_chamber}
-use Rattle.robot_moves.specs.Moves.{first_of, is_empty, is_free, chamber_where_free, free_chamber, target, where_free, free_target}
+use Rattle.robot_moves.specs.Moves.{first_of, is_empty, is_free, is_next, chamber_where_free, free_chamber, target, where_free, free_target}
 use Rattle.robot_moves.specs.declared.module.Module.{Module}
 use Rattle.robot_moves.specs.declared.module.Module.TheVariants.{Idle}
 use Rattle.robot_moves.specs.declared.view.PlaceView.{PlaceView}
@@ -87,19 +88,24 @@ pub record IsAligner (v : PlaceView) (loc : LocId) : Type 0 where
   pub unaligned : v.aligned ≡ false
   pub at : loc ≡ Aligner
 
--- of an aligned one, a chamber of 1 to 8 that its recipe has
+-- of an aligned one, a chamber of its next step
 pub record IsChamber (v : PlaceView) (loc : LocId) : Type 0 where
   pub unfinished : v.finished ≡ false
   pub aligned : v.aligned ≡ true
   pub c : ℕ
   pub least : 1 ≤ c
-  pub most : c ≤ 8
-  pub has : has_chamber v.chambers c ≡ true
+  pub next : is_next v c ≡ true
   pub at : loc ≡ Chamber c
 
 -- one of them
 abbrev pub IsTarget : PlaceView → LocId → Type 0
 IsTarget v loc = IsHome v loc ⊎ (IsAligner v loc ⊎ IsChamber v loc)
+
+-- a chamber of 1 to 8 that a set has is in the step of that set
+next_of : (v : PlaceView) (c : ℕ) → 1 ≤ c → c ≤ 8 → has_chamber v.chambers c ≡ true → is_next v c ≡ true
+next_of v c least most has = both (nat_le 1 c && nat_le c 8) (has_chamber v.chambers c) (within c least most) has where
+  within : (c : ℕ) → 1 ≤ c → c ≤ 8 → (nat_le 1 c && nat_le c 8) ≡ true
+  within c least most = grind (arith, nat_tests)
 
 module _ (vs : List PlaceView) (ms : List Module) (v : PlaceView) where
   -- the first chamber that is found has the bit, and is one of those that were looked at
@@ -125,7 +131,7 @@ module _ (vs : List PlaceView) (ms : List Module) (v : PlaceView) where
     in_chamber p q (Some c) r e =
         let found = chamber_found 1 8 c r in
         let most = found.1 in
-        inr (inr (record { unfinished = p; aligned = q; c = c; least = found.0; most = omega (arith, most); has = found.2; at = cc }))
+        inr (inr (record { unfinished = p; aligned = q; c = c; least = found.0; next = next_of v c found.0 (omega (arith, most)) found.2; at = cc }))
 
     of : (finished : Bool) → v.finished ≡ finished → (aligned : Bool) → v.aligned ≡ aligned
         → (if finished then Some v.slot else (if not aligned then Some Aligner else option_map (λ (c : ℕ). Chamber c) (free_chamber vs ms v))) ≡ Some loc → IsTarget v loc
@@ -176,5 +182,5 @@ module _ (f : ToolFloor) (b : Base f) where
         let here = subst (λ (l : LocId). is_free (views f) f.modules l ≡ true) h.at free in
         record {
           at_aligner = λ un. let yes : (picture f).is_aligned n ≡ true = s.aligned ∙ h.aligned in absurd (cc);
-          in_chamber = λ al. (h.c, s.chambers member h.c h.least h.most h.has, free_chamber_within h.c h.least here, free_empty (Chamber h.c) here);
+          in_chamber = λ al. (h.c, s.next member h.c ∙ h.next, free_chamber_within h.c h.least here, free_empty (Chamber h.c) here);
         }

@@ -1,12 +1,12 @@
 -- What the planner is told of a substrate is what the floor by numbers says of it.
-use Rattle.std.proofs.Common.{◌≡◌, ◌≤◌, ℕ, zero, suc, ◌+◌, ◌==◌, Bool, true, false, ◌||◌, ◌&&◌, not, if◌then◌else◌, List, [], ◌∷◌, ◌++◌, find, Option, Some, None, option_map, slice_get, refl, sym, ◌∙◌, ap, subst, arith}
+use Rattle.std.proofs.Common.{◌≡◌, ℕ, ◌==◌, Bool, true, false, ◌||◌, not, List, [], ◌∷◌, ◌++◌, find, Option, Some, None, option_map, slice_get, refl, sym, ◌∙◌, ap, subst}
 use Rattle.std.specs.List.{AllByRecursion, list_any}
 use Rattle.gem_tables.specs.Table.{is_one_of}
 use Rattle.gem_ids.specs.declared.numbers.LocId.{LocId}
 use Rattle.gem_ids.specs.declared.numbers.LocId.TheVariants.{Slot}
 use Rattle.gem_ids.specs.declared.numbers.PortNo.{PortNo}
 use Rattle.gem_ids.specs.declared.numbers.SlotNo.{SlotNo}
-use Rattle.robot_moves.specs.Moves.{holder, is_empty}
+use Rattle.robot_moves.specs.Moves.{holder, is_empty, is_next}
 use Rattle.robot_moves.specs.declared.view.PlaceView.{PlaceView}
 use Rattle.shop_floor.proofs.Belonging.{all_at}
 use Rattle.substrate.specs.Locations.{is_same}
@@ -18,19 +18,17 @@ use Rattle.substrate.specs.declared.record.Processing.TheVariants as processing
 use Rattle.substrate.specs.declared.registered.Registered.{Registered}
 use Rattle.substrate.proofs.Sites.{same_is}
 use Rattle.records.proofs.Truth.{not_true}
-use Rattle.tool_tasks.specs.Chambers.{has_chamber}
-use Rattle.process_job.specs.Jobs.{recipe_named}
 use Rattle.process_job.specs.declared.job.ProcessJob.{ProcessJob}
 use Rattle.floor_model.specs.declared.tracked.Substrate.{Substrate}
 use Rattle.floor_model.specs.Floor.{ToolFloor, substrate_numbered, number_of}
 use Rattle.floor_model.specs.Jobs.{job_of, is_job_so, is_processing}
-use Rattle.floor_model.specs.Views.{chambers_of, recipe_of, view_of, view_in, views_of, views}
+use Rattle.floor_model.specs.Views.{view_of, view_in, views_of, views}
 use Rattle.floor_moves.specs.Floor.{own, is_finished as is_finished_state, next_step}
 use Rattle.floor_moves.specs.Valid.{Empty}
-use Rattle.place_laws.specs.Picture.{picture, loc_of, numbered, chambers_in, of_one, of_job}
+use Rattle.place_laws.specs.Picture.{picture, loc_of, numbered, of_one, of_job}
 use Rattle.place_laws.specs.Sound.{Base}
-use Rattle.place_laws.proofs.ChamberLists.{is_listed}
 use Rattle.place_laws.proofs.Holding.{found_among, kept_there, own_place, IsThere}
+use Rattle.place_laws.proofs.Routes.{its_job, listed_next}
 use Rattle.floor_laws.proofs.IssueHeld.{found_so, found_any, none_any, IsHeld, HasKept, all_held}
 use Rattle.place_laws.proofs.Names.{same_loc}
 
@@ -50,8 +48,8 @@ finished_number processing.Skipped = refl
 
 -- ---- one view
 
--- A view is of the substrate of this number: what it says of it, the floor by numbers says. The chambers are those of its job, where it
--- is in one.
+-- A view is of the substrate of this number: what it says of it, the floor by numbers says. The chambers of its next step are those of the
+-- route of its job, where it is in one.
 pub record IsSeen (f : ToolFloor) (n : ℕ) (v : PlaceView) : Type 0 where
   pub number : numbered v.sub f.places ≡ n
   pub at : (picture f).place_of n ≡ Some (loc_of v.at)
@@ -60,7 +58,7 @@ pub record IsSeen (f : ToolFloor) (n : ℕ) (v : PlaceView) : Type 0 where
   pub finished : is_finished_state ((picture f).processing n) ≡ v.finished
   pub aligned : (picture f).is_aligned n ≡ v.aligned
   pub starts : (picture f).jobs.may_start n ≡ v.may_start
-  pub chambers : (picture f).jobs.is_member n ≡ true → (c : ℕ) → 1 ≤ c → c ≤ 8 → has_chamber v.chambers c ≡ true → is_one_of (next_step n (picture f)) c ≡ true
+  pub next : (picture f).jobs.is_member n ≡ true → (c : ℕ) → is_one_of (next_step n (picture f)) c ≡ is_next v c
 
 -- a view is of one
 abbrev pub IsView : ToolFloor → PlaceView → Type 0
@@ -71,10 +69,6 @@ abbrev seen_at : ToolFloor → Registered → Substrate → PlaceView
 seen_at f r s = view_of r s (job_of s f.jobs) f.jobs.process.recipes
 
 module _ (f : ToolFloor) (b : Base f) where
-  -- the chambers of a process job, where there is one
-  abbrev chambers_said : Option ProcessJob → List ℕ
-  chambers_said o = of_one [] (λ (j : ProcessJob). chambers_in (recipe_named j.recipe f.jobs.process.recipes)) o
-
   -- that of a place that is held is
   seen : (r : Registered) (s : Substrate) → IsHeld f r s → IsSeen f r.number (seen_at f r s)
   seen r s h =
@@ -88,9 +82,7 @@ module _ (f : ToolFloor) (b : Base f) where
         finished = ap (λ (o : Option Substrate). is_finished_state (of_one 0 (λ (x : Substrate). processing_number x.states.processing) o)) h.found ∙ finished_number s.states.processing;
         aligned = ap (of_one false (λ (x : Substrate). x.aligned)) h.found;
         starts = ap (of_one false (of_job false (λ j. is_processing j.states.state) f.jobs)) h.found ∙ starts_so (job_of s f.jobs);
-        chambers = λ member c least most e.
-            ap (λ (o : Option Substrate). is_one_of (of_one [] (of_job [] (λ j. chambers_in (recipe_named j.recipe f.jobs.process.recipes)) f.jobs) o) c) h.found
-            ∙ chambers_so (job_of s f.jobs) (sym (ap (of_one false (of_job false (λ j. true) f.jobs)) h.found) ∙ member) c least most e;
+        next = λ member c. let j = its_job f r.number s h.found member in listed_next f r.number s h.found j.0 j.1 c;
       }
     where
       by_found : (x : Substrate) → substrate_numbered r.number f.substrates ≡ Some x → x ≡ s
@@ -99,10 +91,6 @@ module _ (f : ToolFloor) (b : Base f) where
       starts_so : (o : Option ProcessJob) → of_one false (λ (j : ProcessJob). is_processing j.states.state) o ≡ is_job_so is_processing o
       starts_so None = refl
       starts_so (Some j) = refl
-
-      chambers_so : (o : Option ProcessJob) → of_one false (λ (j : ProcessJob). true) o ≡ true → (c : ℕ) → 1 ≤ c → c ≤ 8 → has_chamber (chambers_of (recipe_named (recipe_of o) f.jobs.process.recipes)) c ≡ true → is_one_of (chambers_said o) c ≡ true
-      chambers_so None member c least most e = absurd (cc)
-      chambers_so (Some j) member c least most e = is_listed (chambers_of (recipe_named j.recipe f.jobs.process.recipes)) c (record { has = e; least = least; most = most })
 
   -- ---- all of them
 

@@ -1,15 +1,16 @@
 -- What the aligner and the chambers are to do fits the places: rows 3 and 4 of table 16 may be issued.
 use Rattle.std.proofs.Common.{◌≡◌, ℕ, Bool, true, false, ◌||◌, Some, refl, ◌∙◌, ap, subst}
+use Rattle.gem_tables.specs.Table.{is_one_of}
 use Rattle.gem_ids.specs.declared.numbers.LocId.{LocId}
 use Rattle.gem_ids.specs.declared.numbers.LocId.TheVariants.{Aligner, Chamber}
 use Rattle.robot_moves.specs.Modules.{module_at, is_idle, chamber_module as chamber_number}
+use Rattle.robot_moves.specs.Moves.{is_next}
 use Rattle.robot_moves.specs.declared.view.PlaceView.{PlaceView}
 use Rattle.floor_model.specs.Floor.{ToolFloor}
-use Rattle.floor_moves.specs.Floor.{Loc, aligner, arm, chamber, align, process, Command, idle, busy, is_outside, is_finished, chamber_module}
+use Rattle.floor_moves.specs.Floor.{Loc, aligner, arm, chamber, align, process, Command, idle, busy, is_outside, is_finished, next_step, chamber_module}
 use Rattle.floor_moves.specs.Valid.{AlignStands, ProcessStands, PickStands, PlaceStands, Valid}
 use Rattle.place_laws.specs.Picture.{picture, loc_of}
 use Rattle.place_laws.specs.Sound.{Base}
-use Rattle.place_laws.proofs.OneStep.{next_there, through_finished}
 use Rattle.floor_laws.proofs.IssueViews.{IsSeen}
 use Rattle.floor_laws.proofs.IssueTargets.{idle_seen, module_within}
 use Rattle.floor_moves.proofs.Issuing.{MayIssue}
@@ -59,10 +60,10 @@ module _ (f : ToolFloor) (b : Base f) (v : Valid (picture f)) where
         let number : n ≡ k = cc in
         subst (λ (i : ℕ). AlignStands 2 i (picture f)) number (record { its_module = refl; stands = here; unaligned = s.aligned ∙ unaligned })
 
-  -- ---- row 4: what stands in a chamber that is Idle, unfinished
+  -- ---- row 4: what stands in a chamber that is Idle and in its next step, unfinished
 
-  pub may_process : (n c : ℕ) (w : PlaceView) → IsSeen f n w → w.at ≡ Chamber c → w.finished ≡ false → is_idle (module_at (chamber_number c) f.modules) ≡ true → MayIssue (chamber_number c) (process n) (picture f)
-  may_process n c w s e unfinished rests = record {
+  pub may_process : (n c : ℕ) (w : PlaceView) → IsSeen f n w → w.at ≡ Chamber c → w.finished ≡ false → is_next w c ≡ true → is_idle (module_at (chamber_number c) f.modules) ≡ true → MayIssue (chamber_number c) (process n) (picture f)
+  may_process n c w s e unfinished next rests = record {
     idles = its_idle;
     is_module = module_within f b (chamber_number c) rests;
     member = v.members.outside n (ap is_outside here);
@@ -78,14 +79,17 @@ module _ (f : ToolFloor) (b : Base f) (v : Valid (picture f)) where
     not_yet : is_finished ((picture f).processing n) ≡ false
     not_yet = s.finished ∙ unfinished
 
+    is_due : is_one_of (next_step n (picture f)) c ≡ true
+    is_due = s.next (v.members.outside n (ap is_outside here)) c ∙ next
+
     its_idle : (picture f).equipment (chamber_module c) ≡ idle
     its_idle = idle_seen f b (chamber_number c) rests
 
     no_pick : (m : ℕ) (l : Loc) (d : Command) → (picture f).equipment m ≡ busy d → PickStands m n l (picture f) → ⊥
     no_pick m l d open_ t =
         let from : l ≡ chamber c = one_place (picture f) n l (chamber c) t.stands here in
-        let done : is_finished ((picture f).processing n) ≡ true = through_finished f v n c here (t.from_chamber c from) in
-        let unfinished = not_yet in
+        let through = t.from_chamber c from not_yet in
+        let due = is_due in
         cc
 
     no_place : (m : ℕ) (l : Loc) (d : Command) → (picture f).equipment m ≡ busy d → PlaceStands m n l (picture f) → ⊥
@@ -103,4 +107,4 @@ module _ (f : ToolFloor) (b : Base f) (v : Valid (picture f)) where
     of_task : (k : ℕ) → process n ≡ process k → ProcessStands (chamber_number c) k (picture f)
     of_task k t =
         let number : n ≡ k = cc in
-        subst (λ (i : ℕ). ProcessStands (chamber_number c) i (picture f)) number (c, refl, here, not_yet, next_there f v n c here not_yet)
+        subst (λ (i : ℕ). ProcessStands (chamber_number c) i (picture f)) number (c, refl, here, not_yet, is_due)

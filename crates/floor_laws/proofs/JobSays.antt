@@ -1,5 +1,5 @@
 -- What holds goes on where the process jobs, the jobs of substrates and the marks of carriers change.
-use Rattle.std.proofs.Common.{◌≡◌, ◌≤◌, ℕ, Bool, true, false, ◌||◌, if◌then◌else◌, List, [], ◌∷◌, map, find, Option, Some, None, option_map, refl, sym, ◌∙◌, ap, subst}
+use Rattle.std.proofs.Common.{◌≡◌, ◌≤◌, ◌<◌, ℕ, Bool, true, false, not, ◌&&◌, ◌||◌, if◌then◌else◌, List, [], ◌∷◌, map, find, length, Option, Some, None, option_map, refl, sym, ◌∙◌, ap, subst}
 use Rattle.std.specs.List.{list_any}
 use Rattle.std.proofs.lemmas.Bool.{true≢false, or_left, or_right}
 use Rattle.tool_tasks.specs.declared.recipes.Recipe.{Recipe}
@@ -23,14 +23,15 @@ use Rattle.floor_moves.specs.Valid.{Members, Valid, MaySay}
 use Rattle.floor_moves.proofs.Agreeing.{alike_same, agree-keeps}
 use Rattle.floor_moves.proofs.Carrying.{jobs_say-keeps}
 use Rattle.floor_moves.proofs.Facts.{outside_not_done, picked_not_done}
-use Rattle.place_laws.specs.Picture.{picture, of_one, of_job, is_complete, chambers_in, job_view, port_in, slot_in, where_present}
+use Rattle.place_laws.specs.Picture.{picture, of_one, of_job, is_complete, steps_in, job_view, port_in, slot_in, where_present}
 use Rattle.place_laws.specs.Sound.{IsOfJob, IsInItsJob, JobsSound, Base, Sound}
 use Rattle.place_laws.proofs.Holding.{found_among, true_of_found}
 use Rattle.place_laws.proofs.Leaving.{Leaves}
-use Rattle.place_laws.proofs.OneStep.{one_left}
+use Rattle.place_laws.proofs.Routes.{some_left}
 use Rattle.place_laws.proofs.Stays.{stay-carried}
 use Rattle.floor_laws.proofs.UnloadMarked.{all_marked-unloading}
 use Rattle.floor_laws.proofs.JobSight.{some_same, none_some}
+use Rattle.floor_laws.proofs.JobSteps.{none_done}
 use Rattle.floor_laws.proofs.JobChanges.{IsJobAlone, numbers_map, found_map, says_map, carried_map, registered_map, apart_map, rising_map, held_map, marked_leaves, marked_at_ports, marked_numbers, marked_says}
 
 -- ---- what jobs say of a substrate
@@ -104,7 +105,7 @@ module _ (f : ToolFloor) (ms : List Material) (change : Substrate → Substrate)
     place_of = λ n. refl;
     processing = λ n _. processing_same n;
     is_aligned = λ n _. says_map change alone false (λ (s : Substrate). s.aligned) (λ s. ap (λ (x : Substrate). x.aligned) (alone s)) n f.substrates;
-    steps_of = λ k _ _. refl;
+    steps_of = λ n _ _. says_map change alone 0 (λ (s : Substrate). s.steps) (λ s. ap (λ (x : Substrate). x.steps) (alone s)) n f.substrates;
     carriers = marked_numbers ms f.shop;
     present_at = λ c. marked_says None where_present (λ x. refl) ms f.shop c;
     is_verified = λ c _. marked_says false (λ (x : Carrier). is_map_verified x.states.map) (λ x. refl) ms f.shop c;
@@ -148,13 +149,13 @@ module _ (f : ToolFloor) (ms : List Material) (change : Substrate → Substrate)
 
     -- and has the route that it had
     route_on : (n : ℕ) → is_done n (picture f) ≡ false → (picture f).jobs.is_member n ≡ true → view.route_of n ≡ (picture f).jobs.route_of n
-    route_on n left is = ap (λ (step : List ℕ). step ∷ []) (
+    route_on n left is =
         let m = member_tells f.substrates f.jobs n (λ j. true) is in
         let k = goes.stays n m.one m.job m.found left m.its in
-        said_there (map change f.substrates) w n [] (λ j. chambers_in (recipe_named j.recipe w.process.recipes)) (change m.one) k.0 (found_behind n m.one m.found) k.1
-        ∙ ap (λ (r : List ℕ). chambers_in (recipe_named r w.process.recipes)) k.2
-        ∙ ap (λ (rs : List Recipe). chambers_in (recipe_named m.job.recipe rs)) goes.recipes
-        ∙ sym (said_there f.substrates f.jobs n [] (λ j. chambers_in (recipe_named j.recipe f.jobs.process.recipes)) m.one m.job m.found m.its))
+        said_there (map change f.substrates) w n [] (λ j. steps_in (recipe_named j.recipe w.process.recipes)) (change m.one) k.0 (found_behind n m.one m.found) k.1
+        ∙ ap (λ (r : List ℕ). steps_in (recipe_named r w.process.recipes)) k.2
+        ∙ ap (λ (rs : List Recipe). steps_in (recipe_named m.job.recipe rs)) goes.recipes
+        ∙ sym (said_there f.substrates f.jobs n [] (λ j. steps_in (recipe_named j.recipe f.jobs.process.recipes)) m.one m.job m.found m.its)
 
     -- one that an open command names isn't done
     named_left : (m : ℕ) (c : Command) → (picture f).equipment m ≡ busy c → is_done (named c.task) (picture f) ≡ false
@@ -175,7 +176,7 @@ module _ (f : ToolFloor) (ms : List Material) (change : Substrate → Substrate)
       carrier = λ n e. carrier n (member_tells (map change f.substrates) w n (λ j. true) e);
       here = λ n e. here n (member_tells (map change f.substrates) w n (λ j. true) e);
       complete = λ n e done. over n (member_tells (map change f.substrates) w n (λ j. is_complete j.states.state) done);
-      left = λ n e unfinished. one_left (of_one [] (of_job [] (λ j. chambers_in (recipe_named j.recipe w.process.recipes)) w) (substrate_numbered n (map change f.substrates)));
+      left = λ n e unfinished. step_left n (member_tells (map change f.substrates) w n (λ j. true) e) unfinished ((picture f).jobs.is_member n) refl;
     } where
       carrier_is : (n : ℕ) (s : Substrate) → substrate_numbered n f.substrates ≡ Some s → (picture f).carrier_of n ≡ s.carrier
       carrier_is n s e = ap (of_one 0 (λ (s : Substrate). s.carrier)) e
@@ -197,6 +198,18 @@ module _ (f : ToolFloor) (ms : List Material) (change : Substrate → Substrate)
 
       over : (n : ℕ) → IsMember (map change f.substrates) w (λ j. is_complete j.states.state) n → is_done n (picture f) ≡ true
       over n m = let s = before n m.one m.found in goes.over n s.0 m.job s.1 (ap (λ (x : Substrate). job_of x w) s.2 ∙ m.its) m.so
+
+      -- an unfinished one has a step that isn't done: the one that it had, or the first, where it is a new member
+      step_left : (n : ℕ) → IsMember (map change f.substrates) w (λ j. true) n → law.is_finished ((picture f).processing n) ≡ false → (b : Bool) → (picture f).jobs.is_member n ≡ b → (picture f).steps_of n < length (view.route_of n)
+      step_left n m unfinished true was =
+          let same = route_on n (ap (λ (b : Bool). b && not (law.is_outside ((picture f).place_of n))) unfinished) was in
+          subst (λ (route : List (List ℕ)). (picture f).steps_of n < length route) (sym same) (v.members.left n was unfinished)
+      step_left n m unfinished false out =
+          let s = before n m.one m.found in
+          let none = none_done (picture f) v n (found_among number_of n f.substrates s.0 s.1) unfinished out in
+          let route = said_there (map change f.substrates) w n [] (λ j. steps_in (recipe_named j.recipe w.process.recipes)) m.one m.job m.found m.its in
+          subst (λ (i : ℕ). i < length (view.route_of n)) (sym none)
+          (subst (λ (steps : List (List ℕ)). 0 < length steps) (sym route) (some_left (recipe_named m.job.recipe w.process.recipes)))
 
     -- and the routes of those outside or named stay
     may_say : MaySay view (picture f)

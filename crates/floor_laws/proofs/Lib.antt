@@ -25,6 +25,7 @@ pub mod JobSight
 pub mod JobNamed
 pub mod JobWork
 pub mod JobChanges
+pub mod JobSteps
 pub mod JobSays
 pub mod JobLists
 pub mod JobStates
@@ -36,12 +37,14 @@ pub mod JobProcess
 pub mod EndBase
 pub mod EndNames
 pub mod EndOpen
+pub mod EndRunning
 pub mod EndRows
 pub mod EndLost
 pub mod EndPlaces
 pub mod EndMoves
 pub mod EndAnswers
 pub mod EndProcess
+pub mod EndStepped
 pub mod RegFound
 pub mod RegNames
 pub mod RegMore

@@ -11,7 +11,7 @@ use Rattle.robot_moves.specs.declared.module.Module.TheVariants.{Idle, Busy, Dow
 use Rattle.robot_moves.specs.Modules.{module_at, change_module}
 use Rattle.floor_model.specs.Floor.{ToolFloor}
 use Rattle.floor_model.specs.Machines.{floor_fired}
-use Rattle.floor_model.specs.Modules.{module_behind, open_task, aligned_by}
+use Rattle.floor_model.specs.Modules.{module_behind, open_task, aligned_by, stepped_by}
 use Rattle.floor_moves.specs.Floor.{Command as ByNumber, busy}
 use Rattle.place_laws.specs.Picture.{task_of, module_of, picture}
 use Rattle.place_laws.specs.Sound.{Sound}
@@ -39,6 +39,13 @@ aligned_modules (Some (task.Place sub to)) f = refl
 aligned_modules (Some (task.Align sub)) f = refl
 aligned_modules (Some (task.Process sub recipe)) f = refl
 
+stepped_modules : (t : Option Task) (f : ToolFloor) → (stepped_by t f).modules ≡ f.modules
+stepped_modules None f = refl
+stepped_modules (Some (task.Pick sub from)) f = refl
+stepped_modules (Some (task.Place sub to)) f = refl
+stepped_modules (Some (task.Align sub)) f = refl
+stepped_modules (Some (task.Process sub recipe)) f = refl
+
 -- the modules behind such a row: that of the row has no command, where it had one, and each other is as before
 record Closes (m row : ℕ) (f : ToolFloor) : Type 0 where
   modules : (floor_fired (firing 16 m row) f).modules ≡ change_module m (module_behind row) f.modules
@@ -50,7 +57,10 @@ closes m row f is =
       record { modules = refl; none = λ c b. idle_has_none },
       (
         record { modules = ap (change_module m (module_behind 6)) (aligned_modules (open_task (module_at m f.modules)) f); none = λ c b. idle_has_none },
-        (record { modules = refl; none = λ c b. idle_has_none }, (record { modules = refl; none = λ c b. down_has_none }, (record { modules = refl; none = λ c b. down_has_none }, tt))),
+        (
+          record { modules = ap (change_module m (module_behind 7)) (stepped_modules (open_task (module_at m f.modules)) f); none = λ c b. idle_has_none },
+          (record { modules = refl; none = λ c b. down_has_none }, (record { modules = refl; none = λ c b. down_has_none }, tt)),
+        ),
       ),
     ) is
 

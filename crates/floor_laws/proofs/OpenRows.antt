@@ -31,7 +31,7 @@ use Rattle.substrate.specs.declared.record.Processing.{Processing}
 use Rattle.floor_model.specs.declared.tracked.Substrate.{Substrate}
 use Rattle.floor_model.specs.Floor.{ToolFloor, with_module}
 use Rattle.floor_model.specs.Jobs.{job_does, found_job_does, frees, stops_carriers, gets_members}
-use Rattle.floor_model.specs.Modules.{in_state, module_behind, command, issued, open_task, aligned_by, move_does, found_move}
+use Rattle.floor_model.specs.Modules.{in_state, module_behind, command, issued, open_task, aligned_by, stepped_by, move_does, found_move}
 use Rattle.floor_model.specs.Machines.{floor_starts, floor_fired, taken_along, registered_by, moved_by}
 use Rattle.floor_model.specs.Substrates.{can_register, first_substrate, registers_at, registers_slot, registers_slots, registers_at_port, registers_found, reaches_verified, without_carrier, substrate_does, found_does}
 use Rattle.floor_model.specs.Views.{planned}
@@ -136,6 +136,13 @@ aligned_quiet (Some (task.Place sub to)) f = quiet_same f
 aligned_quiet (Some (task.Align sub)) f = record { modules = refl; commands = refl }
 aligned_quiet (Some (task.Process sub recipe)) f = quiet_same f
 
+stepped_quiet : (t : Option Task) (f : ToolFloor) → Quiet f (stepped_by t f)
+stepped_quiet None f = quiet_same f
+stepped_quiet (Some (task.Pick sub from)) f = quiet_same f
+stepped_quiet (Some (task.Place sub to)) f = quiet_same f
+stepped_quiet (Some (task.Align sub)) f = quiet_same f
+stepped_quiet (Some (task.Process sub recipe)) f = record { modules = refl; commands = refl }
+
 as_opens : (f g : ToolFloor) → Quiet f g → Opens f g
 as_opens f g q = opens_same f g q.modules q.commands
 
@@ -158,6 +165,7 @@ effect_opens want.issues_align m o f = issued_opens m o f
 effect_opens want.issues_process m o f = issued_opens m o f
 effect_opens want.moves m o f = opens_same f _ refl refl
 effect_opens want.aligns m o f = as_opens f _ (aligned_quiet (open_task (module_at m f.modules)) f)
+effect_opens want.steps m o f = as_opens f _ (stepped_quiet (open_task (module_at m f.modules)) f)
 effect_opens want.closes m o f = opens_same f f refl refl
 effect_opens want.clears_alarm m o f = opens_same f f refl refl
 

@@ -1,5 +1,5 @@
 -- A carrier that is taken away, with its substrates, is forgotten in the floor by numbers.
-use Rattle.std.proofs.Common.{◌≡◌, ℕ, ◌+◌, ◌==◌, Bool, true, false, not, ◌&&◌, if◌then◌else◌, List, [], ◌∷◌, filter, find, map, Option, Some, None, option_map, refl, sym, ◌∙◌, ap, subst}
+use Rattle.std.proofs.Common.{◌≡◌, ℕ, ◌+◌, ◌==◌, Bool, true, false, not, ◌&&◌, if◌then◌else◌, List, [], filter, find, map, Option, Some, None, option_map, refl, sym, ◌∙◌, ap, subst}
 use Rattle.std.specs.List.{AllByRecursion, list_any}
 use Rattle.std.proofs.lemmas.Bool.{and_parts, false_from_ne_true, not-true}
 use Rattle.std.proofs.lemmas.Bool.Decides.{Decides-eqb}
@@ -26,7 +26,7 @@ use Rattle.floor_moves.specs.Agree.{Agree}
 use Rattle.floor_moves.specs.Valid.{IsDistinct, Valid}
 use Rattle.floor_moves.proofs.Promised.{no_member}
 use Rattle.floor_moves.proofs.Scans.{filter_tells}
-use Rattle.place_laws.specs.Picture.{picture, loc_of, place_in, where_present, of_one, of_job, is_complete, chambers_in, numbers_from}
+use Rattle.place_laws.specs.Picture.{picture, loc_of, place_in, where_present, of_one, of_job, is_complete, steps_in, numbers_from}
 use Rattle.place_laws.specs.Sound.{IsOfKept, Base}
 use Rattle.place_laws.proofs.Holding.{found_number, true_of_found, one_found, rising_distinct}
 use Rattle.floor_laws.proofs.RegNames.{modules_same}
@@ -253,7 +253,7 @@ module _ (f : ToolFloor) (b : Base f) (name : List ℕ) (c : Carrier) (found : c
       place_of = place;
       processing = λ k e. says_left 0 _ k e;
       is_aligned = λ k e. says_left false _ k e;
-      steps_of = λ k _ _. refl;
+      steps_of = λ k e _. says_left 0 _ k e;
       carriers = carriers_numbers;
       present_at = present;
       is_verified = λ k e. ap (of_one false (λ (x : Carrier). is_map_verified x.states.map)) (others_found k (known_other k e));
@@ -264,7 +264,7 @@ module _ (f : ToolFloor) (b : Base f) (name : List ℕ) (c : Carrier) (found : c
         is_stopping = λ k. says_job false (λ j. is_stopping j.states.state) k;
         is_aborting = λ k. says_job false (λ j. is_aborting j.states.state) k;
         is_complete = λ k. says_job false (λ j. is_complete j.states.state) k;
-        route_of = λ k. ap (λ (step : List ℕ). step ∷ []) (says_job [] (λ j. chambers_in (recipe_named j.recipe f.jobs.process.recipes)) k);
+        route_of = λ k. says_job [] (λ j. steps_in (recipe_named j.recipe f.jobs.process.recipes)) k;
         names_carrier = λ k p here. ap (of_one false (λ (x : Carrier). is_any_of_carrier x.name f.jobs)) (others_found k (present_other k p here));
         is_marked = λ k p here. ap (of_one false (λ (x : Carrier). x.stopped)) (others_found k (present_other k p here));
       };

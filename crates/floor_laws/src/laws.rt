@@ -42,13 +42,13 @@ pub fn it_is_kept_by_each_row()
     ensures alone { (x : Firing) (f : ToolFloor) → floor_starts x f ≡ true → is_common x ≡ true → Sound f → Sound (floor_fired x f) }
 {}
 
-/// It is kept where the equipment fetches a command, where it says that an open command is done or failed, where it says of a module
-/// that isn't Down that it went down, and where the operator says that a substrate is lost: by all rows that this fires, one behind
-/// the other.
+/// It is kept where the equipment fetches a command, where it says that an open command is done, no row being ready before that, or failed,
+/// where it says of a module that isn't Down that it went down, and where the operator says that a substrate is lost: by all rows that this
+/// fires, one behind the other.
 pub fn it_is_kept_by_what_the_equipment_and_the_operator_say()
     ensures fetched { (number : ℕ) (f : ToolFloor) → Sound f → Sound (fetched number f) }
-    ensures done { (number command : ℕ) (f : ToolFloor) → is_open command (module_at number f.modules) ≡ true → Sound f
-        → Sound (listed (done_rows number f) f) }
+    ensures done { (number command : ℕ) (f : ToolFloor) → is_open command (module_at number f.modules) ≡ true → floor_least f ≡ None
+        → Sound f → Sound (listed (done_rows number f) f) }
     ensures failed { (number command : ℕ) (f : ToolFloor) → is_open command (module_at number f.modules) ≡ true → Sound f
         → Sound (listed (closing_rows 8 number f) f) }
     ensures down { (number : ℕ) (f : ToolFloor) → is_up (module_at number f.modules) ≡ true → Sound f

@@ -221,6 +221,16 @@ needs processing.Skipped e = absurd (cc)
 processed : (row : ℕ) → processing_left (after processing_number processing_table row processing.NeedsProcessing) + 1 ≤ 2 → (p : Processing) → is_among processing_number (processing.NeedsProcessing ∷ []) p ≡ true → processing_left (after processing_number processing_table row p) + 1 ≤ processing_left p
 processed row less p e = subst (λ (q : Processing). processing_left (after processing_number processing_table row q) + 1 ≤ processing_left q) (sym (needs p e)) less
 
+unfinished : (row : ℕ) → processing_left (after processing_number processing_table row processing.NeedsProcessing) + 1 ≤ 2 → processing_left (after processing_number processing_table row processing.InProcess) + 1 ≤ 1 → (p : Processing) → is_among processing_number (processing.NeedsProcessing ∷ processing.InProcess ∷ []) p ≡ true → processing_left (after processing_number processing_table row p) + 1 ≤ processing_left p
+unfinished row needs works processing.NeedsProcessing e = needs
+unfinished row needs works processing.InProcess e = works
+unfinished row needs works processing.Processed e = absurd (cc)
+unfinished row needs works processing.Aborted e = absurd (cc)
+unfinished row needs works processing.Stopped e = absurd (cc)
+unfinished row needs works processing.Rejected e = absurd (cc)
+unfinished row needs works processing.Lost e = absurd (cc)
+unfinished row needs works processing.Skipped e = absurd (cc)
+
 falls_12 : (f : ToolFloor) (row n : ℕ) (s : Substrate) → substrate_numbered n f.substrates ≡ Some s → transport_left (after transport_number transport_table row s.states.transport) + 1 ≤ transport_left s.states.transport → Falls f (firing 12 n row)
 falls_12 f row n s at state =
     let less = substrates_fall (substrate_moves 12 row) n f.substrates s at (omega (arith, state)) in
@@ -253,8 +263,8 @@ processing_at f n row (Some s) at e =
             (
               (λ _ among _. falls_13 f 5 n s refl at (processed 5 (omega arith) s.states.processing among)),
               (
-                (λ _ among _. falls_13 f 6 n s refl at (processed 6 (omega arith) s.states.processing among)),
-                ((λ _ among _. falls_13 f 7 n s refl at (processed 7 (omega arith) s.states.processing among)), ((λ i _ _. never i), tt)),
+                (λ _ among _. falls_13 f 6 n s refl at (unfinished 6 (omega arith) (omega arith) s.states.processing among)),
+                ((λ _ among _. falls_13 f 7 n s refl at (unfinished 7 (omega arith) (omega arith) s.states.processing among)), ((λ i _ _. never i), tt)),
               ),
             ),
           ),

@@ -40,7 +40,7 @@ use Rattle.floor_model.proofs.Tables.{none_of, least_floor, first_location as fi
 use Rattle.floor_model.proofs.Moves.{none_to_move}
 use Rattle.floor_model.proofs.EachTable.{EachTable, starts_cases, least_cases, either_creates}
 use Rattle.floor_model.specs.Views.{planned}
-use Rattle.floor_model.specs.Modules.{move_wants, move_starts, move_ready, issued, open_task, aligned_by, found_move}
+use Rattle.floor_model.specs.Modules.{move_wants, move_starts, move_ready, issued, open_task, aligned_by, stepped_by, found_move}
 use Rattle.tool_tasks.specs.declared.task.Task.{Task}
 use Rattle.tool_tasks.specs.declared.recipes.Recipe.{Recipe}
 use Rattle.tool_tasks.specs.declared.task.Task.TheVariants as task
@@ -293,6 +293,13 @@ aligned_shop (Some (task.Place sub to)) f valid = valid
 aligned_shop (Some (task.Align sub)) f valid = valid
 aligned_shop (Some (task.Process sub recipe)) f valid = valid
 
+stepped_shop : (o : Option Task) (f : ToolFloor) → IsFloor f.shop → IsFloor (stepped_by o f).shop
+stepped_shop None f valid = valid
+stepped_shop (Some (task.Pick sub from)) f valid = valid
+stepped_shop (Some (task.Place sub to)) f valid = valid
+stepped_shop (Some (task.Align sub)) f valid = valid
+stepped_shop (Some (task.Process sub recipe)) f valid = valid
+
 move_shop : (row number : ℕ) (f : ToolFloor) → IsFloor f.shop → IsFloor (moved_by row number f).shop
 move_shop row number f valid =
     let plan = planned number f in
@@ -300,7 +307,7 @@ move_shop row number f valid =
       issued_shop number plan f valid,
       (
         issued_shop number plan f valid,
-        (issued_shop number plan f valid, (issued_shop number plan f valid, (valid, (aligned_shop (open_task (module_at number f.modules)) f valid, (valid, (valid, (valid, (valid, tt)))))))),
+        (issued_shop number plan f valid, (issued_shop number plan f valid, (valid, (aligned_shop (open_task (module_at number f.modules)) f valid, (stepped_shop (open_task (module_at number f.modules)) f valid, (valid, (valid, (valid, tt)))))))),
       ),
     )
 

@@ -8,7 +8,7 @@ use Rattle.gem_tables.proofs.Machines.{none_ready}
 use Rattle.robot_moves.specs.declared.module.Module.{Module}
 use Rattle.robot_moves.specs.declared.module.Module.TheVariants.{Idle, Busy, Down}
 use Rattle.substrate.specs.Places.{is_any_at_work}
-use Rattle.substrate.specs.Record.{is_needing}
+use Rattle.substrate.specs.Record.{is_needing, is_in_process}
 use Rattle.substrate.specs.Tables.{transport_number, transport_table, processing_number, processing_table}
 use Rattle.substrate.specs.declared.record.Transport.{Transport}
 use Rattle.substrate.specs.declared.record.Transport.TheVariants.{AtSource, AtWork, AtDestination}
@@ -23,7 +23,7 @@ use Rattle.floor_model.specs.Floor.{ToolFloor, substrate_numbered, number_of}
 use Rattle.floor_model.specs.Machines.{substrate_ready, floor_machines}
 use Rattle.floor_model.specs.Substrates.{is_outside, is_in_slot}
 use Rattle.floor_model.specs.Naming.{module_names, task_processes, processes}
-use Rattle.floor_model.specs.Wants.{substrate_wants}
+use Rattle.floor_model.specs.Wants.{is_between, substrate_wants}
 use Rattle.process_job.specs.Jobs.{has_number, job_numbered}
 use Rattle.process_job.specs.declared.job.ProcessJob.{ProcessJob}
 use Rattle.process_job.specs.declared.record.JobState.{JobState}
@@ -125,20 +125,29 @@ module _ (n : ℕ) where
   none_aborting : (js : List ProcessJob) → list_any is_ending js ≡ false → is_job_so is_aborting (job_numbered n js) ≡ false
   none_aborting = of_test is_aborting (λ j none. (or_false (is_stopping j.states.state) (is_aborting j.states.state) none).1)
 
-chain : (skipped stopped aborted : Option ℕ) (stops aborts out here : Bool) → stops ≡ false → aborts ≡ false
-    → (if (stops || aborts) && here then skipped else (if out && stops then stopped else (if out && aborts then aborted else None))) ≡ None
-chain skipped stopped aborted true aborts out here e g = absurd (cc)
-chain skipped stopped aborted false true out here e g = absurd (cc)
-chain skipped stopped aborted false false true here e g = refl
-chain skipped stopped aborted false false false here e g = refl
+-- none of rows 6 and 7 where the process job is in neither state
+ends : (stopped aborted : Option ℕ) (stops aborts out between : Bool) → stops ≡ false → aborts ≡ false
+    → (if (out && stops) && between then stopped else (if (out && aborts) && between then aborted else None)) ≡ None
+ends stopped aborted true aborts out between e g = absurd (cc)
+ends stopped aborted false true out between e g = absurd (cc)
+ends stopped aborted false false true between e g = refl
+ends stopped aborted false false false between e g = refl
+
+-- nor row 5
+chain : (skipped stopped aborted : Option ℕ) (stops aborts out here between : Bool) → stops ≡ false → aborts ≡ false
+    → (if (stops || aborts) && here then skipped else (if (out && stops) && between then stopped else (if (out && aborts) && between then aborted else None))) ≡ None
+chain skipped stopped aborted true aborts out here between e g = absurd (cc)
+chain skipped stopped aborted false true out here between e g = absurd (cc)
+chain skipped stopped aborted false false out here between e g = ends stopped aborted false false out between refl refl
 
 -- none of a substrate that none processes, and whose process job isn't ending
 none_of_processing : (f : ToolFloor) (s : Substrate) (p : Processing) → (is_needing p ≡ true → list_any (processes s.sub) f.modules ≡ false)
     → is_job_so is_stopping (job_of s f.jobs) ≡ false → is_job_so is_aborting (job_of s f.jobs) ≡ false
     → first_itself processing_number (λ want. substrate_wants want s f) processing_table p ≡ None
 none_of_processing f s NeedsProcessing none stops aborts =
-    rw (none refl) (chain (Some 5) (Some 6) (Some 7) (is_job_so is_stopping (job_of s f.jobs)) (is_job_so is_aborting (job_of s f.jobs)) (is_outside s f.places) (is_in_slot s f.places && not (list_any (module_names s.sub) f.modules)) stops aborts)
-none_of_processing f s InProcess none stops aborts = refl
+    rw (none refl) (chain (Some 5) (Some 6) (Some 7) (is_job_so is_stopping (job_of s f.jobs)) (is_job_so is_aborting (job_of s f.jobs)) (is_outside s f.places) (is_in_slot s f.places && not (list_any (module_names s.sub) f.modules)) (not (is_in_process s.states.processing && false)) stops aborts)
+none_of_processing f s InProcess none stops aborts =
+    ends (Some 6) (Some 7) (is_job_so is_stopping (job_of s f.jobs)) (is_job_so is_aborting (job_of s f.jobs)) (is_outside s f.places) (is_between s f) stops aborts
 none_of_processing f s Processed none stops aborts = refl
 none_of_processing f s Aborted none stops aborts = refl
 none_of_processing f s Stopped none stops aborts = refl

@@ -20,7 +20,7 @@ use Rattle.floor_model.specs.declared.tracked.Substrate.{Substrate}
 use Rattle.floor_model.specs.Floor.{ToolFloor, with_shop, with_jobs, with_module, module_numbers, location_at, change_location, location_numbers, name_of_place, substrate_numbered, change_numbered, substrate_name, number_of}
 use Rattle.robot_moves.specs.Tables.{move_table}
 use Rattle.floor_model.specs.Views.{planned}
-use Rattle.floor_model.specs.Modules.{move_starts, move_ready, module_behind, found_move}
+use Rattle.floor_model.specs.Modules.{move_starts, move_ready, module_behind, one_more, found_move}
 use Rattle.floor_model.specs.Wants.{accessing_wants, location_wants, substrate_wants}
 use Rattle.floor_model.specs.Jobs.{found_sight, is_first_here, process_behind}
 use Rattle.process_job.specs.Jobs.{job_numbered as process_numbered}
@@ -120,9 +120,13 @@ module _ {S : Type 0} (number : S → ℕ) (rows : List (SubstrateRow S)) (state
   substrate_ready None f = None
   substrate_ready (Some s) f = first_itself number (λ want. substrate_wants want s f) rows (state s.states)
 
+-- how many steps of its route are done behind a row: one more behind row 3 of processing, which is fired where the last is done
+abbrev pub steps_behind : ℕ → ℕ → ℕ → ℕ
+steps_behind table row steps = if (table == 13) && (row == 3) then one_more steps else steps
+
 -- a substrate behind a row
 abbrev pub substrate_moves : ℕ → ℕ → Substrate → Substrate
-substrate_moves table row s = record s { states = substrate_fired table row s.states }
+substrate_moves table row s = record s { states = substrate_fired table row s.states; steps = steps_behind table row s.steps }
 
 -- the substrate of a number behind a row
 abbrev pub with_moved : ℕ → ℕ → ℕ → ToolFloor → ToolFloor

@@ -1,5 +1,5 @@
 -- What the rows of the table of moves want and do (this tool's profile, table 16). The table is in robot_moves.
-use Rattle.std.specs.Prelude.{ℕ, ◌+◌, ◌==◌, ◌&&◌, if◌then◌else◌, Bool, true, false, List, Option, Some, None, option_map}
+use Rattle.std.specs.Prelude.{ℕ, ◌+◌, ◌==◌, nat_lt, ◌&&◌, if◌then◌else◌, Bool, true, false, List, Option, Some, None, option_map}
 use Rattle.gem_tables.specs.Table.{after, may_fire, first_itself}
 use Rattle.tool_tasks.specs.declared.task.Task.{Task}
 use Rattle.tool_tasks.specs.declared.task.Task.TheVariants as task
@@ -13,7 +13,9 @@ use Rattle.tool_tasks.specs.declared.task.Command.{Command}
 use Rattle.substrate.specs.Locations.{is_location}
 use Rattle.substrate.specs.Places.{PlaceMap, substrate_named, shifted}
 use Rattle.floor_model.specs.declared.tracked.Substrate.{Substrate}
-use Rattle.floor_model.specs.Floor.{ToolFloor, change_numbered}
+use Rattle.tool_tasks.specs.Routes.{most_steps}
+use Rattle.floor_model.specs.Floor.{ToolFloor, substrate_numbered, change_numbered}
+use Rattle.floor_model.specs.Views.{goes_on}
 use Rattle.robot_moves.specs.declared.module.Module.{Module}
 use Rattle.robot_moves.specs.declared.module.Module.TheVariants.{Idle, Busy, Down}
 use Rattle.robot_moves.specs.declared.module.ModuleState.{ModuleState}
@@ -125,6 +127,24 @@ abbrev pub aligned_by : Option Task → ToolFloor → ToolFloor
 aligned_by (Some (task.Align sub)) f = record f { substrates = aligned_numbered (number_named sub f.places) f.substrates }
 aligned_by _ f = f
 
+-- one step more of a route is done; it has at most six
+abbrev pub one_more : ℕ → ℕ
+one_more steps = if nat_lt steps most_steps then steps + 1 else steps
+
+-- the next step of a substrate is done
+abbrev pub stepped : Substrate → Substrate
+stepped s = record s { steps = one_more s.steps }
+
+-- that of the substrate of a number is, where one is given that goes on to a further step
+abbrev pub stepped_numbered : Option ℕ → ToolFloor → List Substrate
+stepped_numbered None f = f.substrates
+stepped_numbered (Some n) f = if goes_on (substrate_numbered n f.substrates) f then change_numbered n stepped f.substrates else f.substrates
+
+-- what is done by a Process has the step done, where it isn't the last and its job isn't ABORTING
+abbrev pub stepped_by : Option Task → ToolFloor → ToolFloor
+stepped_by (Some (task.Process sub recipe)) f = record f { substrates = stepped_numbered (number_named sub f.places) f }
+stepped_by _ f = f
+
 -- what the word of a row says
 abbrev pub move_does : MoveEffect → ℕ → Option Move → ToolFloor → ToolFloor
 move_does want.no_more number plan f = f
@@ -134,6 +154,7 @@ move_does want.issues_align number plan f = issued number plan f
 move_does want.issues_process number plan f = issued number plan f
 move_does want.moves number plan f = record f { places = transferred (open_task (module_at number f.modules)) f.places }
 move_does want.aligns number plan f = aligned_by (open_task (module_at number f.modules)) f
+move_does want.steps number plan f = stepped_by (open_task (module_at number f.modules)) f
 move_does want.closes number plan f = f
 move_does want.clears_alarm number plan f = f
 

@@ -16,6 +16,7 @@ use Rattle.floor_model.specs.Substrates.{is_in_slot}
 use Rattle.floor_model.specs.Modules.{number_named}
 use Rattle.floor_model.specs.Naming.{module_names}
 use Rattle.floor_model.specs.Jobs.{job_of, is_job_so, is_aborting}
+use Rattle.floor_model.specs.Views.{goes_on}
 
 -- the tool has no module of this number
 abbrev pub is_no_module : ℕ → ToolFloor → Bool
@@ -51,17 +52,18 @@ is_of_aborting (Some s) f = is_job_so is_aborting (job_of s f.jobs)
 abbrev pub done_processing : ℕ → ToolFloor → ℕ
 done_processing n f = if is_of_aborting (substrate_numbered n f.substrates) f then 4 else 3
 
--- that row, where a substrate is given
+-- that row, where a substrate is given that doesn't go on to a further step of its route; one that does stays IN PROCESS
 abbrev pub at_done : Option ℕ → ToolFloor → List Firing
 at_done None f = []
-at_done (Some n) f = firing 13 n (done_processing n f) ∷ []
+at_done (Some n) f = if goes_on (substrate_numbered n f.substrates) f then [] else firing 13 n (done_processing n f) ∷ []
 
 -- that of the substrate that a task processes
 abbrev pub done_processed : Task → ToolFloor → List Firing
 done_processed (task.Process sub recipe) f = at_done (number_named sub f.places) f
 done_processed _ f = []
 
--- the direct rows of Done of the open command of a module: that of its task, and behind a Process row 3 or 4 of processing
+-- the direct rows of Done of the open command of a module: that of its task, and behind a Process row 4 of processing where the job is
+-- ABORTING, and row 3 where the step was the last
 abbrev pub done_at : ℕ → Option Module → ToolFloor → List Firing
 done_at number (Some (Busy command fetched)) f = at_module (done_row command.task) number ++ done_processed command.task f
 done_at number _ f = []

@@ -55,10 +55,10 @@ is_of carrier s = s.carrier == carrier
 abbrev pub can_register : List ℕ → LocId → PlaceMap → Bool
 can_register sub loc p = is_location p.ports p.chambers loc && not (is_some (register_fault sub loc p.held))
 
--- a substrate that is registered, in its slot, of the carrier of this number, and in no job
+-- a substrate that is registered, in its slot, of the carrier of this number, with no step done, and in no job
 abbrev pub first_substrate : ℕ → List ℕ → ℕ → LocId → Substrate
 first_substrate number sub carrier loc =
-    record { number = number; sub = sub; carrier = carrier; slot = loc; states = first_record; aligned = false; job = 0 }
+    record { number = number; sub = sub; carrier = carrier; slot = loc; states = first_record; aligned = false; steps = 0; job = 0 }
 
 -- a substrate is registered at a place, behind the others, where it can be
 abbrev pub registers_at : List ℕ → ℕ → LocId → ToolFloor → ToolFloor

@@ -1,5 +1,5 @@
 -- What the planner is told of the substrates (this tool's profile, moves).
-use Rattle.std.specs.Prelude.{ℕ, List, [], ◌∷◌, ◌++◌, Option, Some, None}
+use Rattle.std.specs.Prelude.{ℕ, ◌+◌, nat_lt, Bool, false, not, ◌&&◌, List, [], ◌∷◌, ◌++◌, length, Option, Some, None}
 use Rattle.substrate.specs.Places.{PlaceMap, is_any_at_work}
 use Rattle.substrate.specs.Record.{is_finished, is_in_process}
 use Rattle.substrate.specs.declared.registered.Registered.{Registered}
@@ -12,21 +12,31 @@ use Rattle.process_job.specs.Jobs.{recipe_named}
 use Rattle.process_job.specs.declared.job.ProcessJob.{ProcessJob}
 use Rattle.tool_jobs.specs.Jobs.{Jobs}
 use Rattle.floor_model.specs.declared.tracked.Substrate.{Substrate}
-use Rattle.floor_model.specs.Jobs.{job_of, is_job_so, is_processing}
+use Rattle.floor_model.specs.Jobs.{job_of, is_job_so, is_processing, is_aborting}
 use Rattle.floor_model.specs.Floor.{ToolFloor, substrate_numbered}
 
--- the set of the chambers of the first step of a recipe, none where there is no such recipe
-abbrev pub chambers_of : Option Recipe → ℕ
-chambers_of None = 0
-chambers_of (Some r) = step_at 0 r.route
+-- the route of a recipe, with no step where there is no such recipe
+abbrev pub route_of : Option Recipe → List ℕ
+route_of None = []
+route_of (Some r) = r.route
 
 -- the name of the recipe of a process job, empty where there is none
 abbrev pub recipe_of : Option ProcessJob → List ℕ
 recipe_of None = []
 recipe_of (Some j) = j.recipe
 
+-- the route of a substrate: that of the recipe of its process job
+abbrev pub route_for : Substrate → Jobs → List ℕ
+route_for s w = route_of (recipe_named (recipe_of (job_of s w)) w.process.recipes)
+
+-- The step that is done by a Process isn't the last of the substrate's route, and its process job isn't ABORTING: so it stays IN PROCESS,
+-- and goes on to its next step.
+abbrev pub goes_on : Option Substrate → ToolFloor → Bool
+goes_on None f = false
+goes_on (Some s) f = not (is_job_so is_aborting (job_of s f.jobs)) && nat_lt (s.steps + 1) (length (route_for s f.jobs))
+
 -- A substrate and its place, with its process job where it is in one: it may leave its slot where that is PROCESSING, and goes by the
--- recipe of that to the chambers of its first step.
+-- recipe of that to the chambers of the first step of its route that isn't done.
 abbrev pub view_of : Registered → Substrate → Option ProcessJob → List Recipe → PlaceView
 view_of r s job recipes = record {
   sub = r.sub;
@@ -37,7 +47,7 @@ view_of r s job recipes = record {
   finished = is_finished s.states.processing;
   in_process = is_in_process s.states.processing;
   may_start = is_job_so is_processing job;
-  chambers = chambers_of (recipe_named (recipe_of job) recipes);
+  chambers = step_at s.steps (route_of (recipe_named (recipe_of job) recipes));
   recipe = recipe_of job;
 }
 

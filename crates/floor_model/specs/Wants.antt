@@ -9,6 +9,8 @@ use Rattle.carrier.specs.declared.carrier.Carrier.{Carrier}
 use Rattle.substrate.specs.Tables as want
 use Rattle.substrate.specs.Tables.{SubstrateWant}
 use Rattle.substrate.specs.Places.{PlaceMap, is_taken_at}
+use Rattle.substrate.specs.Record.{is_in_process}
+use Rattle.process_job.specs.declared.record.JobState.{JobState}
 use Rattle.floor_model.specs.declared.tracked.Substrate.{Substrate}
 use Rattle.floor_model.specs.Floor.{ToolFloor}
 use Rattle.floor_model.specs.Naming.{module_names, processes}
@@ -51,6 +53,14 @@ is_skipped s f =
     (is_job_so is_stopping (job_of s f.jobs) || is_job_so is_aborting (job_of s f.jobs))
     && (is_in_slot s f.places && not (list_any (module_names s.sub) f.modules))
 
+-- no open Process command names it where it is IN PROCESS
+abbrev pub is_between : Substrate → ToolFloor → Bool
+is_between s f = not (is_in_process s.states.processing && list_any (processes s.sub) f.modules)
+
+-- it is outside, its process job is in such a state, and no open Process command names it where it is IN PROCESS
+abbrev pub is_outside_of : (JobState → Bool) → Substrate → ToolFloor → Bool
+is_outside_of test s f = (is_outside s f.places && is_job_so test (job_of s f.jobs)) && is_between s f
+
 -- what a row of a substrate wants
 abbrev pub substrate_wants : SubstrateWant → Substrate → ToolFloor → Bool
 substrate_wants want.nothing_more s f = true
@@ -58,14 +68,14 @@ substrate_wants want.outside s f = is_outside s f.places
 substrate_wants want.in_slot s f = is_in_slot s f.places
 substrate_wants want.process_names_it s f = list_any (processes s.sub) f.modules
 substrate_wants want.in_slot_of_ending_job s f = is_skipped s f
-substrate_wants want.outside_of_stopping_job s f = is_outside s f.places && is_job_so is_stopping (job_of s f.jobs)
-substrate_wants want.outside_of_aborting_job s f = is_outside s f.places && is_job_so is_aborting (job_of s f.jobs)
+substrate_wants want.outside_of_stopping_job s f = is_outside_of is_stopping s f
+substrate_wants want.outside_of_aborting_job s f = is_outside_of is_aborting s f
 substrate_wants _ s f = false
 
--- the row of table 13 by which a substrate that NEEDS PROCESSING ends with its process job: 5 in its slot, 6 outside where the job is
--- STOPPING, 7 where it is ABORTING
+-- the row of table 13 by which a substrate outside ends with its process job: 6 where the job is STOPPING, 7 where it is ABORTING
+abbrev pub stopping_row : Substrate → ToolFloor → Option ℕ
+stopping_row s f = if is_outside_of is_stopping s f then Some 6 else (if is_outside_of is_aborting s f then Some 7 else None)
+
+-- that by which one that NEEDS PROCESSING does: 5 in its slot, else as outside
 abbrev pub ending_row : Substrate → ToolFloor → Option ℕ
-ending_row s f =
-    if is_skipped s f then Some 5
-    else (if is_outside s f.places && is_job_so is_stopping (job_of s f.jobs) then Some 6
-    else (if is_outside s f.places && is_job_so is_aborting (job_of s f.jobs) then Some 7 else None))
+ending_row s f = if is_skipped s f then Some 5 else stopping_row s f

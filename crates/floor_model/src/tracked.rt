@@ -5,8 +5,8 @@ use records::Numbered;
 use substrate::SubstrateRecord;
 
 /// A substrate of a carrier that is here: its number of registration, which is its own for good; its name; the number of creation of
-/// its carrier; its slot; its states (SEMI E90); whether it is aligned; and the number of creation of the process job that it is a member
-/// of, 0 where it is in none.
+/// its carrier; its slot; its states (SEMI E90); whether it is aligned; the number of steps of its route that are done; and the number of creation of
+/// the process job that it is a member of, 0 where it is in none.
 #[derive(Clone, Copy)]
 pub struct Substrate {
     pub number: u64,
@@ -15,6 +15,7 @@ pub struct Substrate {
     pub slot: LocId,
     pub states: SubstrateRecord,
     pub aligned: bool,
+    pub steps: u8,
     pub job: u64,
 }
 

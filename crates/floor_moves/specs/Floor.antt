@@ -93,7 +93,7 @@ no_jobs = record {
   is_stopping = λ n. false;
   is_aborting = λ n. false;
   is_complete = λ n. false;
-  route_of = λ n. [] ∷ [];
+  route_of = λ n. [];
   names_carrier = λ c. false;
   is_marked = λ c. false;
 }

@@ -1,6 +1,7 @@
 //! The program: `gem300_tool feed CONFIG` reads lines from standard input and prints lines (docs/profile/lines.md), `gem300_tool
 //! batch SEED CARRIERS CONFIG` processes so many carriers by itself (docs/profile/batch.md), `gem300_tool serve CONFIG` listens for a
-//! host (docs/profile/serve.md), and `--help` and `--version` tell of it (docs/profile/words.md).
+//! host (docs/profile/serve.md), `gem300_tool notes FILE` keeps notes in a durable spool (docs/profile/durable_spool.md), and `--help` and
+//! `--version` tell of it (docs/profile/words.md).
 //!
 //! It hands its arguments to `program_calls::run_words`, says why the run ended on standard error, and ends with its status.
 #![tactic(auto)]

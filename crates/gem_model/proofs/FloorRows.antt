@@ -44,6 +44,7 @@ use Rattle.gem_model.specs.Fire.{fire, fire_all, advanced}
 use Rattle.gem_model.specs.Direct.{Are}
 use Rattle.floor_model.specs.Floor.{substrate_numbered}
 use Rattle.floor_model.specs.Modules.{number_named}
+use Rattle.floor_model.specs.Views.{goes_on}
 use Rattle.robot_moves.specs.Modules.{module_at}
 use Rattle.tool_tasks.specs.declared.task.Task.{Task}
 use Rattle.tool_tasks.specs.declared.task.Task.TheVariants as task
@@ -246,7 +247,8 @@ processed_are row (task.Process sub recipe) f = at_processed_are row (number_nam
 
 at_done_are : (o : Option ℕ) (f : ToolFloor) → AreFloorRows (at_done o f)
 at_done_are None f = tt
-at_done_are (Some n) f = (is_13 n (done_processing n f), tt)
+at_done_are (Some n) f =
+    either_way AreFloorRows (goes_on (substrate_numbered n f.substrates) f) [] (firing 13 n (done_processing n f) ∷ []) tt (is_13 n (done_processing n f), tt)
 
 done_processed_are : (what : Task) (f : ToolFloor) → AreFloorRows (done_processed what f)
 done_processed_are (task.Pick sub from) f = tt

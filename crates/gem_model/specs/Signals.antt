@@ -59,8 +59,8 @@ module_alarm number = 10 + number
 abbrev pub answer_alarm : ℕ
 answer_alarm = 50
 
--- A module did a command: the row of its task, and behind a Process row 3 of processing, where the command is the module's open one, and
--- else the alarm is set alone (this tool's profile, direct rows).
+-- A module did a command: the row of its task, and behind a Process the row of processing, where there is one, where the command is the
+-- module's open one, and else the alarm is set alone (this tool's profile, direct rows).
 abbrev pub module_done : ℕ → ℕ → State → State
 module_done number command g =
     if is_open command (module_of number g) then fire_listed (done_rows number g.floor) g else sets_alarm answer_alarm g

@@ -17,6 +17,7 @@ use Rattle.robot_moves.specs.declared.module.Module.TheVariants.{Idle, Busy, Dow
 use Rattle.robot_moves.specs.Modules.{module_at, is_open}
 use Rattle.floor_model.specs.Floor.{ToolFloor, substrate_numbered}
 use Rattle.floor_model.specs.Modules.{number_named}
+use Rattle.floor_model.specs.Views.{goes_on}
 use Rattle.floor_model.specs.Signals.{is_of_aborting, done_processing, done_row, at_module, at_done, done_processed, done_at, done_rows}
 use Rattle.gem_model.specs.State.{State, raised}
 use Rattle.gem_model.specs.Machines.{row_starts}
@@ -25,6 +26,7 @@ use Rattle.gem_model.specs.Direct.{Are}
 use Rattle.gem_model.specs.Signals.{lacks_module, module_of, answer_alarm}
 use Rattle.gem_model.specs.Occurrences.{RowFires, rows_among, on_listed, on_setting, occurrences}
 use Rattle.gem_model.proofs.Occurring.{set_written}
+use Rattle.gem_model.proofs.Tests.{either_way}
 use Rattle.history_laws.specs.Calm.{disturbs, is_calm}
 
 module _ (number : ℕ) (counted : ℕ → Bool) (f : ToolFloor) where
@@ -53,7 +55,8 @@ module _ (number : ℕ) (counted : ℕ → Bool) (f : ToolFloor) where
 
     next_spares : (o : Option ℕ) → Are Spares (at_done o f)
     next_spares None = tt
-    next_spares (Some n) = (processed_spares n, tt)
+    next_spares (Some n) =
+        either_way (Are Spares) (goes_on (substrate_numbered n f.substrates) f) [] (firing 13 n (done_processing n f) ∷ []) tt (processed_spares n, tt)
 
     task_spares : (m : ℕ) (t : Task) → Are Spares (at_module (done_row t) m ++ done_processed t f)
     task_spares m (task.Pick sub from) = (refl, tt)

@@ -290,8 +290,8 @@ module _ (number : ℕ) (counted : ℕ → Bool) (g : State) (order : InOrder g.
 -- ---- an entry
 
 -- that the control job executes on a floor in order is enough
-pub entry_calm : (number : ℕ) (counted : ℕ → Bool) (g : State) (entry : Entry) (o : Outcome) → InOrder g.floor → Executes number counted g.floor → input_of g entry ≡ Some o → is_calm number counted g entry ≡ true → IsCalmBetween number counted g.floor o.after.floor
-entry_calm number counted g entry o order e here calm =
+pub entry_calm : (number : ℕ) (planned : ℕ → List (List ℕ)) (counted : ℕ → Bool) (g : State) (entry : Entry) (o : Outcome) → InOrder g.floor → Executes number planned counted g.floor → input_of g entry ≡ Some o → is_calm number counted g entry ≡ true → IsCalmBetween number counted g.floor o.after.floor
+entry_calm number planned counted g entry o order e here calm =
     let acted = acted_so g entry o here in
     act_calm number counted (raised g entry.at.0) order (calm_base number counted g.floor e) g.moment o entry.event
     (sym (ap (λ (b : Bool). list_any (disturbs number counted g.floor) (if b then [] else rows_among (occurrences g.moment (raised g entry.at.0) entry.event))) acted.0)

@@ -46,7 +46,8 @@ use Rattle.tool_jobs.proofs.Rows.{after_meets}
 use Rattle.floor_model.specs.declared.tracked.Substrate.{Substrate}
 use Rattle.floor_model.specs.Floor.{ToolFloor, with_shop, with_jobs, with_module, fetched, substrate_numbered, change_numbered, number_of}
 use Rattle.floor_model.specs.Jobs.{freed, found_sight, without_members}
-use Rattle.floor_model.specs.Modules.{module_behind, open_task, number_named, aligned, aligned_numbered, aligned_by}
+use Rattle.floor_model.specs.Modules.{module_behind, open_task, number_named, aligned, aligned_numbered, aligned_by, stepped, stepped_numbered, stepped_by}
+use Rattle.floor_model.specs.Views.{goes_on as goes_further}
 use Rattle.floor_model.specs.Substrates.{reaches_verified, is_of, without_carrier, can_register, first_substrate, registers_at, registers_slot, registers_slots, registers_at_port, registers_found}
 use Rattle.floor_model.specs.Machines.{floor_starts, floor_fired, registered_by, substrate_moves}
 use Rattle.floor_moves.specs.Valid.{IsDistinct}
@@ -180,7 +181,7 @@ module _ (number : ℕ) (counted : ℕ → Bool) (f : ToolFloor) where
   Calm h = IsCalmBetween number counted f h
 
   -- nothing was done
-  pub calm_base : Executes number counted f → Calm f
+  pub calm_base : {planned : ℕ → List (List ℕ)} → Executes number planned counted f → Calm f
   calm_base e = record { executes = e.steers.executes; going = λ n j kept left. (j, kept, e.steers.going n j kept left); works = λ n is over. refl }
 
   -- where the jobs stay, and of counted substrates those that ended say what they said
@@ -368,6 +369,23 @@ module _ (number : ℕ) (counted : ℕ → Bool) (f : ToolFloor) where
     of None = calm_says h (record h { substrates = h.substrates }) refl (λ n is over. refl) c
     of (Some n) = calm_says h (record h { substrates = change_numbered n aligned h.substrates }) refl (λ k is over. says_same n aligned (λ s. refl) 0 says (λ s. refl) k h.substrates) c
 
+  calm_stepped : (o : Option Task) (h : ToolFloor) → Calm h → Calm (stepped_by o h)
+  calm_stepped None h c = c
+  calm_stepped (Some (task.Pick sub from)) h c = c
+  calm_stepped (Some (task.Place sub to)) h c = c
+  calm_stepped (Some (task.Align sub)) h c = c
+  calm_stepped (Some (task.Process sub recipe)) h c = of (number_named sub h.places) where
+    same : Calm (record h { substrates = h.substrates })
+    same = calm_says h (record h { substrates = h.substrates }) refl (λ n is over. refl) c
+
+    by : (n : ℕ) (b : Bool) → Calm (record h { substrates = if b then change_numbered n stepped h.substrates else h.substrates })
+    by n true = calm_says h (record h { substrates = change_numbered n stepped h.substrates }) refl (λ k is over. says_same n stepped (λ s. refl) 0 says (λ s. refl) k h.substrates) c
+    by n false = same
+
+    of : (o : Option ℕ) → Calm (record h { substrates = stepped_numbered o h })
+    of None = same
+    of (Some n) = by n (goes_further (substrate_numbered n h.substrates) h)
+
   calm_module : (m row : ℕ) (h : ToolFloor) → is_one_of (5 ∷ 6 ∷ 7 ∷ 8 ∷ 9 ∷ 10 ∷ []) row ≡ true → is_one_of (8 ∷ 9 ∷ []) row ≡ false → Calm h → Calm (floor_fired (firing 16 m row) h)
   calm_module m row h one quiet c =
       one_of_cases (λ (r : ℕ). is_one_of (8 ∷ 9 ∷ []) r ≡ false → Calm (floor_fired (firing 16 m r) h)) (5 ∷ 6 ∷ 7 ∷ 8 ∷ 9 ∷ 10 ∷ []) row (
@@ -375,12 +393,15 @@ module _ (number : ℕ) (counted : ℕ → Bool) (f : ToolFloor) where
         (
           (λ q. aligned_there (open_task (module_at m h.modules))),
           (
-            (λ q. calm_says h (floor_fired (firing 16 m 7) h) refl (λ n is over. refl) c),
+            (λ q. stepped_there (open_task (module_at m h.modules))),
             ((λ q. absurd (true≢false q)), ((λ q. absurd (true≢false q)), ((λ q. calm_says h (floor_fired (firing 16 m 10) h) refl (λ n is over. refl) c), tt))),
           ),
         ),
       ) one quiet
     where
+      stepped_there : (o : Option Task) → Calm (with_module m (module_behind 7) (stepped_by o h))
+      stepped_there o = calm_says (stepped_by o h) (with_module m (module_behind 7) (stepped_by o h)) refl (λ n is over. refl) (calm_stepped o h c)
+
       aligned_there : (o : Option Task) → Calm (with_module m (module_behind 6) (aligned_by o h))
       aligned_there o = calm_says (aligned_by o h) (with_module m (module_behind 6) (aligned_by o h)) refl (λ n is over. refl) (calm_aligned o h c)
 

@@ -16,6 +16,7 @@ use Rattle.control_job.specs.declared.job.ControlJob.{ControlJob}
 use Rattle.control_job.specs.declared.record.ControlJobRecord.{ControlJobRecord}
 use Rattle.control_job.proofs.Keeping.{fires_number}
 use Rattle.tool_jobs.specs.Rows.{control_starts}
+use Rattle.tool_events.specs.Configs.{are_usable}
 use Rattle.tool_events.specs.declared.config.Config.{Config}
 use Rattle.tool_events.specs.declared.entry.Entry.{Entry}
 use Rattle.tool_events.specs.declared.event.Event.{Event}
@@ -29,16 +30,18 @@ use Rattle.floor_model.specs.Machines.{floor_starts, floor_fired, floor_least}
 use Rattle.floor_model.proofs.Keeping.{least_starts}
 use Rattle.place_laws.specs.Picture.{picture}
 use Rattle.floor_laws.specs.Rows.{listed}
-use Rattle.lot_laws.specs.Lot.{owed_to}
+use Rattle.owed_laws.specs.Owed.{owed_to}
 use Rattle.queue_laws.specs.Steers.{is_executing, AreAutomatic}
 use Rattle.queue_laws.proofs.Lists.{number_is, changed_back}
 use Rattle.queue_laws.proofs.Rows.{by_executing}
-use Rattle.lot_laws.specs.Lot.{counted_of, total, IsMaterialHere, Executes, InOrder, IsCalmBetween}
+use Rattle.lot_laws.specs.Lot.{counted_of, planned_of, total, IsMaterialHere, Executes, InOrder, IsCalmBetween}
 use Rattle.lot_laws.proofs.Beginning.{executes_then, owed_then}
 use Rattle.lot_laws.proofs.Controls.{rest_owes}
 use Rattle.lot_laws.proofs.Disturbs.{at_base, executes_at_end}
 use Rattle.lot_laws.proofs.Equipment.{done-falls}
 use Rattle.lot_laws.proofs.Least.{least-goes}
+use Rattle.work_laws.specs.Equipped.{most_chambers, Equipped}
+use Rattle.work_laws.proofs.Staying.{opening_equipped, row_equipped}
 use Rattle.gem_model.specs.State.{State, opening, raised}
 use Rattle.gem_model.specs.Noting.{sets_alarm}
 use Rattle.gem_model.specs.Fire.{fire, fire_all, fire_listed}
@@ -55,6 +58,8 @@ use Rattle.gem_model.proofs.Each.{each_kept}
 use Rattle.history_laws.proofs.FloorFacts.{fact_acting, fact_kept, fact_automatic, fact_creation, listed_is, done_quiet}
 use Rattle.history_laws.proofs.Past.{IsPast, past_each}
 use Rattle.gem_model.proofs.Paths.{path_keeps, path_at, along_at, control_least}
+use Rattle.history_laws.proofs.Working.{equipped_each}
+use Rattle.history_laws.proofs.Routed.{have_routes}
 use Rattle.history_laws.proofs.Ordering.{Rested, order_fact, order_first}
 use Rattle.history_laws.proofs.Carrying.{Undone, Carried, carried_changes}
 use Rattle.gem_model.proofs.Resting.{AtRest, opening-rests, settled-rests}
@@ -87,16 +92,34 @@ after_acting g entry o here =
     let is = acted_so g entry o here in
     ap (λ (b : Bool). led_to b (acts g.moment (raised g entry.at.0) entry.event) entry.at.0 g) is.0 ∙ ap (λ (x : Option Outcome). led_to false x entry.at.0 g) is.1
 
--- the floor stays in order
-order_acts : (g : State) (entry : Entry) (o : Outcome) → InOrder g.floor → AtRest g → input_of g entry ≡ Some o → InOrder o.after.floor
-order_acts g entry o order rest here =
-    kept_acts Rested (λ (h : State). InOrder h.floor) (fact_kept Rested InOrder order_fact) g.moment (raised g entry.at.0) entry.event o rest order (acted_so g entry o here).1
+-- ---- the floor is prepared
 
-order_settled : (g : State) → InOrder g.floor → InOrder (settled g).floor
-order_settled g order = settled_keeps (λ (h : State). InOrder h.floor) (fact_automatic InOrder order_fact.ready) (fact_creation InOrder) g order
+-- it is in order, and the tool has what its process jobs need
+abbrev pub Prepared : ToolFloor → Type 0
+Prepared f = InOrder f × Equipped f
 
-pub order_entry : (g : State) (entry : Entry) → InOrder g.floor → AtRest g → InOrder (entry_after g entry).floor
-order_entry g entry order rest = behind_entry (λ (h : State). InOrder h.floor) g entry order order (λ o here. order_settled o.after (order_acts g entry o order rest here))
+prepared_ready : (x : Firing) (f : ToolFloor) → floor_least f ≡ Some x → Prepared f → Prepared (floor_fired x f)
+prepared_ready x f ready p = (order_fact.ready x f ready p.0, row_equipped x f p.1)
+
+equipped_kept : Kept Any (λ (h : State). Equipped h.floor)
+equipped_kept = each_kept (λ (h : State). Equipped h.floor) (floor_each Equipped equipped_each)
+
+-- it stays so
+prepared_acts : (g : State) (entry : Entry) (o : Outcome) → Prepared g.floor → AtRest g → input_of g entry ≡ Some o → Prepared o.after.floor
+prepared_acts g entry o p rest here = (
+  kept_acts Rested (λ (h : State). InOrder h.floor) (fact_kept Rested InOrder order_fact) g.moment (raised g entry.at.0) entry.event o rest p.0 (acted_so g entry o here).1,
+  kept_acts Any (λ (h : State). Equipped h.floor) equipped_kept g.moment (raised g entry.at.0) entry.event o tt p.1 (acted_so g entry o here).1,
+)
+
+prepared_settled : (g : State) → Prepared g.floor → Prepared (settled g).floor
+prepared_settled g p = settled_keeps (λ (h : State). Prepared h.floor) (fact_automatic Prepared prepared_ready) (fact_creation Prepared) g p
+
+pub prepared_entry : (g : State) (entry : Entry) → Prepared g.floor → AtRest g → Prepared (entry_after g entry).floor
+prepared_entry g entry p rest = behind_entry (λ (h : State). Prepared h.floor) g entry p p (λ o here. prepared_settled o.after (prepared_acts g entry o p rest here))
+
+-- and is so as it begins
+pub prepared_first : (c : Config) → c.ports ≤ most_ports → c.chambers ≤ most_chambers → are_usable c.chambers c.recipes ≡ true → Prepared (opening c).floor
+prepared_first c few chambers usable = (order_first c few, opening_equipped c.ports c.chambers c.recipes chambers usable)
 
 pub rest_entry : (g : State) (entry : Entry) → AtRest g → AtRest (entry_after g entry)
 rest_entry g entry rest = behind_entry AtRest g entry rest rest (λ o here. settled-rests o.after)
@@ -164,18 +187,18 @@ within_given n last given (d ∷ ds) c r e = of (d.number == n) refl e (within_g
 
 -- ---- while it executes
 
-module _ (number : ℕ) (counted : ℕ → Bool) where
+module _ (number : ℕ) (planned : ℕ → List (List ℕ)) (counted : ℕ → Bool) where
   -- so much is owed to one that executes
   abbrev pub Owes : ℕ → ToolFloor → Type 0
-  Owes k f = Executes number counted f × (owed_to counted (picture f) ≡ k)
+  Owes k f = Executes number planned counted f × (owed_to planned counted (picture f) ≡ k)
 
   -- so it is while the tool settles; or it has completed, and none was owed
   record Goes (k : ℕ) (f : ToolFloor) : Type 0 where
-    order : InOrder f
+    prepared : Prepared f
     goes : Owes k f ⊎ ((k ≡ 0) × IsPast number f.jobs.control)
 
   -- its completion leaves it past
-  completed_past : (f : ToolFloor) → InOrder f → Executes number counted f → IsPast number (floor_fired (firing 15 number 8) f).jobs.control
+  completed_past : (f : ToolFloor) → InOrder f → Executes number planned counted f → IsPast number (floor_fired (firing 15 number 8) f).jobs.control
   completed_past f o e = of (control_numbered number f.jobs.control.jobs) refl e.steers.executes where
     closed : (c : ControlJob) → control_numbered number f.jobs.control.jobs ≡ Some c → (states_number c.states == 3) ≡ true → is_open (fires_at number 8 c) ≡ false
     closed c found three =
@@ -193,14 +216,17 @@ module _ (number : ℕ) (counted : ℕ → Bool) where
     }
 
   goes_ready : (k : ℕ) (x : Firing) (f : ToolFloor) → floor_least f ≡ Some x → Goes k f → Goes k (floor_fired x f)
-  goes_ready k x f ready g = record { order = order_fact.ready x f ready g.order; goes = of g.goes } where
+  goes_ready k x f ready g = record { prepared = prepared_ready x f ready g.prepared; goes = of g.goes } where
+    order : InOrder f
+    order = g.prepared.0
+
     of : Owes k f ⊎ ((k ≡ 0) × IsPast number f.jobs.control) → Owes k (floor_fired x f) ⊎ ((k ≡ 0) × IsPast number (floor_fired x f).jobs.control)
     of (inr past) = inr (past.0, (past_each number).row x f (least_starts f x ready) past.1)
-    of (inl owes) = by (least-goes number counted f g.order.sound g.order.together g.order.started owes.0 x ready) where
-      by : (Executes number counted (floor_fired x f) × (owed_to counted (picture (floor_fired x f)) ≡ owed_to counted (picture f))) ⊎ ((x ≡ firing 15 number 8) × (owed_to counted (picture f) ≡ 0))
+    of (inl owes) = by (least-goes number planned counted f order.sound order.together order.started owes.0 x ready) where
+      by : (Executes number planned counted (floor_fired x f) × (owed_to planned counted (picture (floor_fired x f)) ≡ owed_to planned counted (picture f))) ⊎ ((x ≡ firing 15 number 8) × (owed_to planned counted (picture f) ≡ 0))
           → Owes k (floor_fired x f) ⊎ ((k ≡ 0) × IsPast number (floor_fired x f).jobs.control)
       by (inl on) = inl (on.0, on.1 ∙ owes.1)
-      by (inr last) = inr (sym owes.1 ∙ last.1, subst (λ (y : Firing). IsPast number (floor_fired y f).jobs.control) (sym last.0) (completed_past f g.order owes.0))
+      by (inr last) = inr (sym owes.1 ∙ last.1, subst (λ (y : Firing). IsPast number (floor_fired y f).jobs.control) (sym last.0) (completed_past f order owes.0))
 
   -- so it is of states
   goes_automatic : (k : ℕ) (g : State) (x : Firing) → least g ≡ Some x → Goes k g.floor → Goes k (fire g x).floor
@@ -213,12 +239,12 @@ module _ (number : ℕ) (counted : ℕ → Bool) where
 
   -- so many Dones came, of all; while it executes some are owed, and behind its completion none are
   pub record Stands (all d : ℕ) (g : State) : Type 0 where
-    pub order : InOrder g.floor
+    pub prepared : Prepared g.floor
     pub rest : AtRest g
     pub stands : ((k : ℕ) × Owes k g.floor × (k + d ≡ all)) ⊎ ((all ≤ d) × IsPast number g.floor.jobs.control)
 
   stands_end : (all d k : ℕ) (g : State) → Goes k (settled g).floor → k + d ≡ all → Stands all d (settled g)
-  stands_end all d k g at sum = record { order = at.order; rest = settled-rests g; stands = of at.goes } where
+  stands_end all d k g at sum = record { prepared = at.prepared; rest = settled-rests g; stands = of at.goes } where
     of : Owes k (settled g).floor ⊎ ((k ≡ 0) × IsPast number (settled g).floor.jobs.control) → ((k : ℕ) × Owes k (settled g).floor × (k + d ≡ all)) ⊎ ((all ≤ d) × IsPast number (settled g).floor.jobs.control)
     of (inl owes) = inl (k, owes, sum)
     of (inr past) = inr ((let zero = past.0 in omega (arith, zero, sum)), past.1)
@@ -244,9 +270,9 @@ module _ (number : ℕ) (counted : ℕ → Bool) where
   past_entries g (entry ∷ entries) past = past_entries (entry_after g entry) entries (past_entry g entry past)
 
   -- behind an input that doesn't disturb it, as much is owed, one less at a Done
-  input_goes : (g : State) (k : ℕ) (entry : Entry) (o : Outcome) → InOrder g.floor → AtRest g → Owes k g.floor → input_of g entry ≡ Some o → IsCalmBetween number counted g.floor o.after.floor
+  input_goes : (g : State) (k : ℕ) (entry : Entry) (o : Outcome) → Prepared g.floor → AtRest g → Owes k g.floor → input_of g entry ≡ Some o → IsCalmBetween number counted g.floor o.after.floor
       → (j : ℕ) × Goes j o.after.floor × (j + done_of g entry.event ≡ k)
-  input_goes g k entry o order rest owes here calm = by entry.event refl (done_or g entry.event) where
+  input_goes g k entry o p rest owes here calm = by entry.event refl (done_or g entry.event) where
     acted : acts g.moment (raised g entry.at.0) entry.event ≡ Some o
     acted = (acted_so g entry o here).1
 
@@ -257,41 +283,41 @@ module _ (number : ℕ) (counted : ℕ → Bool) where
         (let there : Some (answered answer.Done (signalled (signal.Done m command) h)) ≡ Some o = sym (ap (λ (x : Event). acts g.moment h x) is) ∙ acted in cc)
         in
         let floor : o.after.floor ≡ listed (done_rows m.0 g.floor) g.floor = sym (ap (λ (x : Outcome). x.after.floor) same) ∙ done_floor m command h opened in
-        let takes = done-falls number counted g.floor order.sound rest owes.0 m.0 command.0 opened in
+        let takes = done-falls number planned counted g.floor p.0.sound (have_routes g.floor p.1) rest owes.0 m.0 command.0 opened in
         let less = takes.1 in
         let all = owes.1 in
         let one : done_of g (event.Signal (signal.Done m command)) ≡ 1 = ap (λ (b : Bool). if b then 1 else 0) opened in (
-          owed_to counted (picture (listed (done_rows m.0 g.floor) g.floor)),
+          owed_to planned counted (picture (listed (done_rows m.0 g.floor) g.floor)),
           record {
-            order = order_acts g entry o order rest here;
-            goes = inl (subst (Owes (owed_to counted (picture (listed (done_rows m.0 g.floor) g.floor)))) (sym floor) (takes.0, refl));
+            prepared = prepared_acts g entry o p rest here;
+            goes = inl (subst (Owes (owed_to planned counted (picture (listed (done_rows m.0 g.floor) g.floor)))) (sym floor) (takes.0, refl));
           },
           omega (arith, less, all, one),
         )
     by _ is (none_is e none) =
         let carried =
-        kept_input (Undone g.floor) (λ (h : State). Carried number counted g.floor h.floor) (fact_acting (Undone g.floor) (Carried number counted g.floor) (carried_changes number counted g.floor order rest owes.0)) g.moment (raised g entry.at.0) entry.event o
-        (record { same = refl; none = ap (done_of (raised g entry.at.0)) is ∙ none (raised g entry.at.0) refl }) (order, at_base number counted g.floor owes.0) acted
+        kept_input (Undone g.floor) (λ (h : State). Carried number planned counted g.floor h.floor) (fact_acting (Undone g.floor) (Carried number planned counted g.floor) (carried_changes number planned counted g.floor p.0 rest owes.0)) g.moment (raised g entry.at.0) entry.event o
+        (record { same = refl; none = ap (done_of (raised g entry.at.0)) is ∙ none (raised g entry.at.0) refl }) (p.0, at_base number planned counted g.floor owes.0) acted
         in
-        let behind = executes_at_end number counted g.floor o.after.floor carried.1 calm in
-        (k, record { order = carried.0; goes = inl (behind.0, behind.1 ∙ owes.1) }, (let zero = none g refl in omega (arith, zero)))
+        let behind = executes_at_end number planned counted g.floor o.after.floor carried.1 calm in
+        (k, record { prepared = prepared_acts g entry o p rest here; goes = inl (behind.0, behind.1 ∙ owes.1) }, (let zero = none g refl in omega (arith, zero)))
 
   -- an entry that doesn't disturb it
-  pub stands_entry : (all d k : ℕ) (g : State) (entry : Entry) → InOrder g.floor → AtRest g → Owes k g.floor → k + d ≡ all
+  pub stands_entry : (all d k : ℕ) (g : State) (entry : Entry) → Prepared g.floor → AtRest g → Owes k g.floor → k + d ≡ all
       → ((o : Outcome) → input_of g entry ≡ Some o → IsCalmBetween number counted g.floor o.after.floor)
       → Stands all (d + (if g.quitting then 0 else done_of g entry.event)) (entry_after g entry)
-  stands_entry all d k g entry order rest owes sum calm = of g.quitting (acts g.moment (raised g entry.at.0) entry.event) refl refl where
+  stands_entry all d k g entry p rest owes sum calm = of g.quitting (acts g.moment (raised g entry.at.0) entry.event) refl refl where
     of : (b : Bool) (x : Option Outcome) → g.quitting ≡ b → acts g.moment (raised g entry.at.0) entry.event ≡ x → Stands all (d + (if b then 0 else done_of g entry.event)) (led_to b x entry.at.0 g)
-    of true x q a = record { order = order; rest = rest; stands = inl (k, owes, (let s : k + (d + 0) ≡ all = omega (arith, sum) in s)) }
+    of true x q a = record { prepared = p; rest = rest; stands = inl (k, owes, (let s : k + (d + 0) ≡ all = omega (arith, sum) in s)) }
     of false None q a =
         record {
-          order = order;
+          prepared = p;
           rest = rest;
           stands = inl (k, owes, (let zero = waiting_none g.moment g (raised g entry.at.0) entry.event a (done_or g entry.event) in let s : k + (d + done_of g entry.event) ≡ all = omega (arith, sum, zero) in s));
         }
     of false (Some o) q a =
         let here : input_of g entry ≡ Some o = ap (λ (b : Bool). if b then None else acts g.moment (raised g entry.at.0) entry.event) q ∙ a in
-        let behind = input_goes g k entry o order rest owes here (calm o here) in
+        let behind = input_goes g k entry o p rest owes here (calm o here) in
         let less = behind.2 in
         stands_settled all (d + done_of g entry.event) behind.0 o.after behind.1 (omega (arith, less, sum))
 
@@ -318,7 +344,7 @@ module _ (number : ℕ) (counted : ℕ → Bool) where
 
   -- some are owed at rest
   owed_ends : (all d k : ℕ) (g : State) → InOrder g.floor → AtRest g → Owes k g.floor → k + d ≡ all → Ends all d g
-  owed_ends all d zero g order rest owes sum = absurd (rest_owes number counted g.floor order.sound order.together order.started owes.0 rest owes.1)
+  owed_ends all d zero g order rest owes sum = absurd (rest_owes number planned counted g.floor order.sound order.together order.started owes.0 rest owes.1)
   owed_ends all d (suc k) g order rest owes sum =
       let few : nat_le all d ≡ false = grind (arith, nat_tests, sum) in
       executing_open (control_of number g) owes.0.steers.executes ∙ sym few
@@ -326,7 +352,7 @@ module _ (number : ℕ) (counted : ℕ → Bool) where
   ends_so : (all d : ℕ) (g : State) (entries : List Entry) → Stands all d g → IsCalmRun number counted g entries → Ends all (d + dones g entries) (after_all g entries)
   ends_so all d g [] at calm = of at.stands where
     of : ((k : ℕ) × Owes k g.floor × (k + d ≡ all)) ⊎ ((all ≤ d) × IsPast number g.floor.jobs.control) → Ends all (d + 0) g
-    of (inl owes) = owed_ends all (d + 0) owes.0 g at.order at.rest owes.1 (let sum = owes.2 in omega (arith, sum))
+    of (inl owes) = owed_ends all (d + 0) owes.0 g at.prepared.0 at.rest owes.1 (let sum = owes.2 in omega (arith, sum))
     of (inr past) = past_ends all (d + 0) g (let enough = past.0 in omega (arith, enough)) past.1
   ends_so all d g (entry ∷ entries) at calm = of at.stands calm (λ s c. ends_so all (d + came) (entry_after g entry) entries s c) where
     came : ℕ
@@ -345,17 +371,17 @@ module _ (number : ℕ) (counted : ℕ → Bool) where
     of (inl owes) (inl completed) later = absurd (true≢false (sym completed ∙ executing_open (control_of number g) owes.1.0.steers.executes))
     of (inl owes) (inr calm) later =
         subst (λ (n : ℕ). Ends all n (after_all (entry_after g entry) entries)) (more (dones (entry_after g entry) entries))
-        (later (stands_entry all d owes.0 g entry at.order at.rest owes.1 owes.2 calm.0) calm.1)
+        (later (stands_entry all d owes.0 g entry at.prepared at.rest owes.1 owes.2 calm.0) calm.1)
 
 -- ---- its start
 
 module _ (number : ℕ) where
   -- behind row 4 or 5 a Done is owed for each command of each substrate that is counted
   starts_goes : (row : ℕ) (f : ToolFloor) → InOrder f → floor_starts (firing 15 number row) f ≡ true → is_one_of (4 ∷ 5 ∷ []) row ≡ true → AreAutomatic number f.jobs → IsMaterialHere number f
-      → Owes number (counted_of number f) (total number f) (floor_fired (firing 15 number row) f)
+      → Owes number (planned_of number f) (counted_of number f) (total number f) (floor_fired (firing 15 number row) f)
   starts_goes row f o starts its auto here = of (control_numbered number f.jobs.control.jobs) refl starts where
     of : (c : Option ControlJob) → control_numbered number f.jobs.control.jobs ≡ c → control_starts row c (is_first_here number f) f.jobs ≡ true
-        → Owes number (counted_of number f) (total number f) (floor_fired (firing 15 number row) f)
+        → Owes number (planned_of number f) (counted_of number f) (total number f) (floor_fired (firing 15 number row) f)
     of None found is = absurd (true≢false (sym is))
     of (Some c) found is = (
       executes_then number row f o.sound o.together o.started o.unaligned o.in_jobs c found is its auto here,
@@ -363,50 +389,53 @@ module _ (number : ℕ) where
     )
 
   -- where it starts, so it stands behind the entry
-  pub started_stands : (g : State) (entry : Entry) (f : State) → InOrder g.floor → AtRest g → StartsAt number g entry f → AreAutomatic number f.floor.jobs → IsMaterialHere number f.floor
-      → Stands number (counted_of number f.floor) (total number f.floor) 0 (entry_after g entry)
-  started_stands g entry _ order rest (by_word o here starts is) auto material =
+  pub started_stands : (g : State) (entry : Entry) (f : State) → Prepared g.floor → AtRest g → StartsAt number g entry f → AreAutomatic number f.floor.jobs → IsMaterialHere number f.floor
+      → Stands number (planned_of number f.floor) (counted_of number f.floor) (total number f.floor) 0 (entry_after g entry)
+  started_stands g entry _ p rest (by_word o here starts is) auto material =
+      let planned = planned_of number g.floor in
       let counted = counted_of number g.floor in
       let all = total number g.floor in
-      let owes : Owes number counted all o.after.floor = subst (Owes number counted all) (sym is) (starts_goes 5 g.floor order starts refl auto material) in
-      subst (Stands number counted all 0) (sym (after_acting g entry o here))
-      (stands_settled number counted all 0 all o.after (record { order = order_acts g entry o order rest here; goes = inl owes }) (omega arith))
-  started_stands g entry _ order rest (by_itself o before behind here is) auto material =
+      let owes : Owes number planned counted all o.after.floor = subst (Owes number planned counted all) (sym is) (starts_goes 5 g.floor p.0 starts refl auto material) in
+      subst (Stands number planned counted all 0) (sym (after_acting g entry o here))
+      (stands_settled number planned counted all 0 all o.after (record { prepared = prepared_acts g entry o p rest here; goes = inl owes }) (omega arith))
+  started_stands g entry _ p rest (by_itself o before behind here is) auto material =
       let f : State = fire_all before o.after in
       let x = firing 15 number 4 in
+      let planned = planned_of number f.floor in
       let counted = counted_of number f.floor in
       let all = total number f.floor in
-      let acted = order_acts g entry o order rest here in
-      let along = settled_along (λ (h : State). InOrder h.floor) (λ (h : State). InOrder h.floor) (λ h at. at) (fact_automatic InOrder order_fact.ready) (fact_creation InOrder) o.after acted in
-      let there : InOrder f.floor = along_at (λ (h : State). InOrder h.floor) before (x ∷ behind) o.after (subst (Along (λ (h : State). InOrder h.floor) o.after) is along) in
+      let acted = prepared_acts g entry o p rest here in
+      let along = settled_along (λ (h : State). Prepared h.floor) (λ (h : State). Prepared h.floor) (λ h at. at) (fact_automatic Prepared prepared_ready) (fact_creation Prepared) o.after acted in
+      let there : Prepared f.floor = along_at (λ (h : State). Prepared h.floor) before (x ∷ behind) o.after (subst (Along (λ (h : State). Prepared h.floor) o.after) is along) in
       let fires = path_at before behind x [] tt refl o.after (settled o.after) (subst (λ (fs : List Firing). Path o.after [] fs (settled o.after)) is (settles_so o.after)) in
       let least_is = control_least f x refl fires.ready in
       let starts = least_starts f.floor x least_is in
-      let owes = starts_goes 4 f.floor there starts refl auto material in
+      let owes = starts_goes 4 f.floor there.0 starts refl auto material in
       let floor : (fire f x).floor ≡ floor_fired x f.floor = ap (λ (h : State). h.floor) (effect_is f x (ready_is f x least_is)) in
-      let goes : Goes number counted all (fire f x).floor =
-      subst (Goes number counted all) (sym floor) (record { order = order_fact.ready x f.floor least_is there; goes = inl owes })
+      let goes : Goes number planned counted all (fire f x).floor =
+      subst (Goes number planned counted all) (sym floor) (record { prepared = prepared_ready x f.floor least_is there; goes = inl owes })
       in
-      let end : Goes number counted all (settled o.after).floor =
-      path_keeps (λ (h : State). Goes number counted all h.floor) (goes_automatic number counted all) (fact_creation (Goes number counted all)) (creations f x) behind (created_are f x) (fire f x) (settled o.after) fires.path goes
+      let end : Goes number planned counted all (settled o.after).floor =
+      path_keeps (λ (h : State). Goes number planned counted all h.floor) (goes_automatic number planned counted all) (fact_creation (Goes number planned counted all)) (creations f x) behind (created_are f x) (fire f x) (settled o.after) fires.path goes
       in
-      subst (Stands number counted all 0) (sym (after_acting g entry o here)) (stands_end number counted all 0 all o.after end (omega arith))
+      subst (Stands number planned counted all 0) (sym (after_acting g entry o here)) (stands_end number planned counted all 0 all o.after end (omega arith))
 
-completes_at : (g : State) (entry : Entry) (entries : List Entry) → InOrder g.floor → AtRest g → CompletesAtLast g entry entries
-completes_at g entry entries order rest number f some rest_of starts auto here parts calm =
+completes_at : (g : State) (entry : Entry) (entries : List Entry) → Prepared g.floor → AtRest g → CompletesAtLast g entry entries
+completes_at g entry entries p rest number f some rest_of starts auto here parts calm =
+    let planned = planned_of number f.floor in
     let counted = counted_of number f.floor in
     let all = total number f.floor in
     let came = dones (entry_after g entry) some in
     let none_before : 0 + came ≡ came = omega arith in
     subst (λ (n : ℕ). has_completed (control_of number (after_all (entry_after g entry) some)) ≡ nat_le all n) none_before
-    (ends_so number counted all 0 (entry_after g entry) some (started_stands number g entry f order rest starts auto here) calm)
+    (ends_so number planned counted all 0 (entry_after g entry) some (started_stands number g entry f p rest starts auto here) calm)
 
-completes_each : (g : State) (entries : List Entry) → InOrder g.floor → AtRest g → EachCompletes g entries
-completes_each g [] order rest = tt
-completes_each g (entry ∷ entries) order rest = (
-  completes_at g entry entries order rest,
-  completes_each (entry_after g entry) entries (order_entry g entry order rest) (rest_entry g entry rest),
+completes_each : (g : State) (entries : List Entry) → Prepared g.floor → AtRest g → EachCompletes g entries
+completes_each g [] p rest = tt
+completes_each g (entry ∷ entries) p rest = (
+  completes_at g entry entries p rest,
+  completes_each (entry_after g entry) entries (prepared_entry g entry p rest) (rest_entry g entry rest),
 )
 
-pub run-completes : (c : Config) (entries : List Entry) (h : State) → c.ports ≤ most_ports → Run (opening c) entries h → EachCompletes (opening c) entries
-run-completes c entries h few run = completes_each (opening c) entries (order_first c few) (opening-rests c)
+pub run-completes : (c : Config) (entries : List Entry) (h : State) → c.ports ≤ most_ports → c.chambers ≤ most_chambers → are_usable c.chambers c.recipes ≡ true → Run (opening c) entries h → EachCompletes (opening c) entries
+run-completes c entries h few chambers usable run = completes_each (opening c) entries (prepared_first c few chambers usable) (opening-rests c)

@@ -23,6 +23,7 @@ use Rattle.robot_moves.specs.Modules.{is_open, is_up}
 use Rattle.floor_model.specs.Floor.{ToolFloor, with_shop, with_jobs, fetched, substrate_numbered}
 use Rattle.floor_model.specs.Jobs.{carrier_code, is_any_of_carrier}
 use Rattle.floor_model.specs.Modules.{number_named}
+use Rattle.floor_model.specs.Views.{goes_on}
 use Rattle.floor_model.proofs.Asked.{done_by_jobs}
 use Rattle.floor_model.specs.Machines.{floor_starts, floor_fired, floor_least, creation_rows, is_creation}
 use Rattle.floor_model.specs.Signals.{done_row, at_processed, processed_rows, done_processing, at_done, done_processed, done_at, done_rows, closing_at, closing_rows, can_be_lost, lost_at, lost_rows}
@@ -125,7 +126,8 @@ substrate_quiet row n = is_quiet (firing 13 n row) (record { not_1 = refl; not_2
 
 at_done_quiet : (o : Option ℕ) (f : ToolFloor) → Are Quiet (at_done o f)
 at_done_quiet None f = tt
-at_done_quiet (Some n) f = (substrate_quiet (done_processing n f) n, tt)
+at_done_quiet (Some n) f =
+    either_way (Are Quiet) (goes_on (substrate_numbered n f.substrates) f) [] (firing 13 n (done_processing n f) ∷ []) tt (substrate_quiet (done_processing n f) n, tt)
 
 done_processed_quiet : (t : Task) (f : ToolFloor) → Are Quiet (done_processed t f)
 done_processed_quiet (task.Pick sub from) f = tt

@@ -23,6 +23,7 @@ use Rattle.robot_moves.specs.declared.module.Module.TheVariants.{Idle, Busy, Dow
 use Rattle.robot_moves.specs.Modules.{module_at}
 use Rattle.floor_model.specs.Floor.{ToolFloor, substrate_numbered}
 use Rattle.floor_model.specs.Modules.{number_named}
+use Rattle.floor_model.specs.Views.{goes_on}
 use Rattle.floor_model.specs.Signals.{done_row, at_module, at_processed, processed_rows, is_of_aborting, done_processing, at_done, done_processed, done_at, done_rows, closing_at, closing_rows, can_be_lost, lost_at, lost_rows}
 use Rattle.gem_model.specs.State.{State}
 use Rattle.gem_model.specs.Direct.{Are}
@@ -79,7 +80,8 @@ done_one n f = either_way (λ (row : ℕ). IsInput (firing 13 n row)) (is_of_abo
 
 done_next : (o : Option ℕ) (f : ToolFloor) → AreInputs (at_done o f)
 done_next None f = tt
-done_next (Some n) f = (done_one n f, tt)
+done_next (Some n) f =
+    either_way AreInputs (goes_on (substrate_numbered n f.substrates) f) [] (firing 13 n (done_processing n f) ∷ []) tt (done_one n f, tt)
 
 done_task : (number : ℕ) (t : Task) (f : ToolFloor) → AreInputs (at_module (done_row t) number ++ done_processed t f)
 done_task number (task.Pick sub from) f = (refl, tt)

@@ -13,5 +13,6 @@ pub mod CalmInputs
 pub mod CalmDones
 pub mod CompletingByRows
 pub mod Working
+pub mod Routed
 pub mod Moved
 pub mod Found

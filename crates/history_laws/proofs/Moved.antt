@@ -155,14 +155,14 @@ module _ (e : Event) (f : ToolFloor) where
     of (Some (Busy c fetched)) here t = (c, fetched, here, (Decides-eqb c.number.0 command).0 t)
 
   -- Done of an open command
-  did_since : (m : ModuleId) (number : CmdNo) → event.Signal (signal.Done m number) ≡ e → is_open number.0 (module_at m.0 f.modules) ≡ true → Since f → Since (listed (done_rows m.0 f) f)
-  did_since m number event_is is since =
+  did_since : (m : ModuleId) (number : CmdNo) → event.Signal (signal.Done m number) ≡ e → is_open number.0 (module_at m.0 f.modules) ≡ true → floor_least f ≡ None → Since f → Since (listed (done_rows m.0 f) f)
+  did_since m number event_is is rest since =
       let w = open_command m.0 number.0 is in
       let d = done_places m.0 f since.sound w.0 w.1 w.2 in
       let same_number : w.0.number ≡ number = ap (λ (k : ℕ). record { 0 = k }) w.3 in
       let told : e ≡ event.Signal (signal.Done m w.0.number) = sym event_is ∙ ap (λ (k : CmdNo). event.Signal (signal.Done m k)) (sym same_number) in
       record {
-        sound = done_sound m.0 number.0 f is since.sound;
+        sound = done_sound m.0 number.0 f is rest since.sound;
         given = let k = d.given in omega (arith, k);
         old = λ n less. of m w.0 w.1 told w.2 n (d.places n);
         new = λ n l past there. beyond w.0 n l past there (d.places n);
@@ -222,7 +222,7 @@ module _ (e : Event) (f : ToolFloor) where
         (opens_then g.floor _ _ (row_opens (firing 4 port.0 5) g.floor starts) (row_opens (firing 7 port.0 6) _ next)) since;
     removal_left = λ g port starts left since. still_on g.floor _ (removal_left_sound port.0 g.floor starts left since.sound) refl (opens_same g.floor _ refl refl) since;
     fetched = λ number g since. still_on g _ (fetched_sound number g since.sound) refl (fetched_opens number g) since;
-    did = λ g number command acts is since. on_floor g acts.same (λ (k : ToolFloor). is_open command.0 (module_at number.0 k.modules) ≡ true) (λ (k : ToolFloor). Since (listed (done_rows number.0 k) k)) (did_since number command acts.is) is since;
+    did = λ g number command acts is since. on_floor g acts.same (λ (k : ToolFloor). (is_open command.0 (module_at number.0 k.modules) ≡ true) × (floor_least k ≡ None)) (λ (k : ToolFloor). Since (listed (done_rows number.0 k) k)) (λ p s. did_since number command acts.is p.0 p.1 s) (is, acts.rest) since;
     failed_at = λ g number command acts is since. still_on g.floor _ (failed_sound number.0 command.0 g.floor is since.sound) (closing_places 8 number.0 g.floor refl) (opens_listed (closing_rows 8 number.0 g.floor) g.floor) since;
     went_down = λ g number acts up since. still_on g.floor _ (down_sound number.0 g.floor up since.sound) (closing_places 9 number.0 g.floor refl) (opens_listed (closing_rows 9 number.0 g.floor) g.floor) since;
     lost = λ g sub acts since. on_floor g acts.same (λ (k : ToolFloor). Unit {0}) (λ (k : ToolFloor). Since (listed (lost_rows sub k) k)) (λ u s. lost_since sub acts.is s) tt since;
@@ -300,7 +300,7 @@ follows_changes f = record {
   removal = λ g port rest starts next s. follows_on f g.floor _ (removed_sound port.0 g.floor starts next (shop_rests g.floor rest) s.sound) (opens_then g.floor _ _ (row_opens (firing 4 port.0 5) g.floor starts) (row_opens (firing 7 port.0 6) _ next)) s;
   removal_left = λ g port starts left s. follows_on f g.floor _ (removal_left_sound port.0 g.floor starts left s.sound) (opens_same g.floor _ refl refl) s;
   fetched = λ number g s. follows_on f g _ (fetched_sound number g s.sound) (fetched_opens number g) s;
-  did = λ g number command rest is s. follows_on f g.floor _ (done_sound number.0 command.0 g.floor is s.sound) (opens_listed (done_rows number.0 g.floor) g.floor) s;
+  did = λ g number command rest is s. follows_on f g.floor _ (done_sound number.0 command.0 g.floor is rest s.sound) (opens_listed (done_rows number.0 g.floor) g.floor) s;
   failed_at = λ g number command rest is s. follows_on f g.floor _ (failed_sound number.0 command.0 g.floor is s.sound) (opens_listed (closing_rows 8 number.0 g.floor) g.floor) s;
   went_down = λ g number rest up s. follows_on f g.floor _ (down_sound number.0 g.floor up s.sound) (opens_listed (closing_rows 9 number.0 g.floor) g.floor) s;
   lost = λ g sub rest s. follows_on f g.floor _ (lost_rows_sound sub g.floor s.sound) (opens_listed (lost_rows sub g.floor) g.floor) s;

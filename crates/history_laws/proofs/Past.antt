@@ -19,7 +19,7 @@ use Rattle.tool_jobs.specs.Rows.{left_by as job_left_by, process_does, found_doe
 use Rattle.tool_jobs.proofs.Rows.{stays_completed}
 use Rattle.floor_model.specs.declared.tracked.Substrate.{Substrate}
 use Rattle.floor_model.specs.Floor.{ToolFloor, substrate_numbered}
-use Rattle.floor_model.specs.Modules.{issued, open_task, aligned_by, move_does, found_move}
+use Rattle.floor_model.specs.Modules.{issued, open_task, aligned_by, stepped_by, move_does, found_move}
 use Rattle.floor_model.specs.Machines.{taken_along, floor_fired}
 use Rattle.floor_model.specs.Substrates.{without_carrier, substrate_does, found_does}
 use Rattle.floor_model.specs.Views.{planned}
@@ -87,6 +87,13 @@ module _ (P : JobStore → Type 0) (leaves_keep : (job : List ℕ) (s : JobStore
   aligned_of (Some (task.Align sub)) f at = at
   aligned_of (Some (task.Process sub recipe)) f at = at
 
+  stepped_of : (o : Option Task) (f : ToolFloor) → Of f → Of (stepped_by o f)
+  stepped_of None f at = at
+  stepped_of (Some (task.Pick sub from)) f at = at
+  stepped_of (Some (task.Place sub to)) f at = at
+  stepped_of (Some (task.Align sub)) f at = at
+  stepped_of (Some (task.Process sub recipe)) f at = at
+
   move_of : (o : Option MoveRow) (number : ℕ) (plan : Option Move) (f : ToolFloor) → Of f → Of (found_move o number plan f)
   move_of None number plan f at = at
   move_of (Some r) number plan f at = of r.does where
@@ -98,6 +105,7 @@ module _ (P : JobStore → Type 0) (leaves_keep : (job : List ℕ) (s : JobStore
     of want.issues_process = issued_of number plan f at
     of want.moves = at
     of want.aligns = aligned_of (open_task (module_at number f.modules)) f at
+    of want.steps = stepped_of (open_task (module_at number f.modules)) f at
     of want.closes = at
     of want.clears_alarm = at
 

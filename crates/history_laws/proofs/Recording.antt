@@ -49,9 +49,9 @@ recorded-of c history g bounds run =
       ends = run-ends-once c history g ports run;
       room = run-room c history g run;
       works = λ up work. run-works c history g ports few bounds.recipes run up work;
-      completes = run-completes c history g ports run;
+      completes = run-completes c history g ports few bounds.recipes run;
       fires = each_fires (opening c) history;
-      completes_by_rows = run-completes_by_rows c history g ports run;
+      completes_by_rows = run-completes_by_rows c history g ports few bounds.recipes run;
     }
 
 -- a history in which nothing happened

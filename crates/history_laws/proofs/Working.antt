@@ -16,7 +16,7 @@ use Rattle.gem_model.proofs.EachFloor.{EachOnFloor, run_holds}
 use Rattle.history_laws.proofs.Placed.{Rests, run_at}
 
 -- what the tool has for its process jobs stays
-equipped_each : EachOnFloor Equipped
+pub equipped_each : EachOnFloor Equipped
 equipped_each = record {
   row = λ x f starts has. row_equipped x f has;
   fetched = λ number f has. fetched_equipped number f has;
@@ -26,7 +26,7 @@ equipped_each = record {
   control = λ s f becomes has. control_equipped f s has;
 }
 
--- so it has it where a history leads, where each recipe of the configuration has a chamber of the tool
+-- so it has it where a history leads, where each step of each recipe of the configuration has a chamber of the tool
 pub run-equipped : (c : Config) (entries : List Entry) (h : State) → c.chambers ≤ most_chambers → are_usable c.chambers c.recipes ≡ true → Run (opening c) entries h → Equipped h.floor
 run-equipped c entries h chambers usable run = run_holds Equipped equipped_each (opening c) entries h (opening_equipped c.ports c.chambers c.recipes chambers usable) run
 
@@ -36,4 +36,4 @@ pub run-works : (c : Config) (entries : List Entry) (h : State) → c.ports ≤ 
 run-works c entries h ports chambers usable run up work =
     let rests : Rests h = run_at c entries h ports run in
     let order = rests.order in
-    open_while_work h.floor order.sound order.processed (run-equipped c entries h chambers usable run) rests.rest up work
+    open_while_work h.floor order.sound (run-equipped c entries h chambers usable run) rests.rest up work

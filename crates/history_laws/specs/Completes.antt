@@ -56,7 +56,8 @@ dones g (entry ∷ entries) = (if g.quitting then 0 else done_of g entry.event) 
 
 -- Where a control job starts in an entry, each process job that is left in it starting by itself and having its material here, and no
 -- entry behind disturbs it, it has completed behind so many entries exactly where as many Dones ended commands in them as it takes
--- commands for the counted substrates: eight for each, since the first of these process jobs that names its slot has one step.
+-- commands for the counted substrates: for each five, and three for each step of the route of the first of these process jobs that names
+-- its slot.
 abbrev pub CompletesAtLast : State → Entry → List Entry → Type 0
 CompletesAtLast g entry entries =
     (number : ℕ) (f : State) (some rest : List Entry) → StartsAt number g entry f → AreAutomatic number f.floor.jobs → IsMaterialHere number f.floor

@@ -67,7 +67,7 @@ pub record Recorded (c : Config) (history : List Entry) (g : State) : Type 0 whe
   pub room : is_full g.transactions ≡ false
   -- while no module is Down and work is left, a command is open
   pub works : is_any_down g.floor.modules ≡ false → is_work_left g.floor ≡ true → is_any_open g.floor.modules ≡ true
-  -- where nobody disturbs it, a control job completes exactly at its last Done, of eight for each of its substrates
+  -- where nobody disturbs it, a control job completes exactly at its last Done, of five for each of its substrates and three for each of their steps
   pub completes : EachCompletes (opening c) history
   -- the rows that are listed of the input of each entry are those that it fires
   pub fires : EachFires (opening c) history

@@ -56,8 +56,8 @@ pub fn each_substrate_moves_once_a_command_in_a_history()
 
 /// Where a history leads, a command is open while no module is Down and work is left: a process job is PROCESSING, STOPPING or ABORTING,
 /// and not each of its members is finished and in its slot or removed; or it is PAUSING, and a member is outside. So the tool never
-/// stands still with work to do. Each recipe of the configuration is to have a chamber of the tool, and has one then throughout, as has
-/// that of each process job.
+/// stands still with work to do, whatever the routes. Each step of each recipe of the configuration is to have a chamber of the tool, and
+/// has one then throughout, as have those of the recipe of each process job.
 pub fn a_command_is_open_in_a_history()
     ensures works { (c : Config) (entries : List Entry) (h : State) → c.ports ≤ most_ports → c.chambers ≤ most_chambers
         → are_usable c.chambers c.recipes ≡ true → Run (opening c) entries h
@@ -67,10 +67,13 @@ pub fn a_command_is_open_in_a_history()
 {}
 
 /// Where a control job starts in an entry of a history, each process job that is left in it starting by itself and having its material
-/// here, and no entry behind disturbs it, it has completed behind so many entries exactly where eight Dones for each counted substrate
-/// ended commands in them. (Counted is each substrate that is AT SOURCE and NEEDS PROCESSING then, in a slot that the material names.)
+/// here, and no entry behind disturbs it, it has completed behind so many entries exactly where 5 + 3k Dones for each counted substrate
+/// ended commands in them, k being the number of steps of the route of the first of these process jobs that names its slot. (Counted is
+/// each substrate that is AT SOURCE and NEEDS PROCESSING then, in a slot that the material names.) Each recipe of the configuration is to
+/// have a chamber of the tool in each step, and its steps rise.
 pub fn a_control_job_completes_at_its_last_done()
-    ensures { (c : Config) (entries : List Entry) (h : State) → c.ports ≤ most_ports → Run (opening c) entries h → EachCompletes (opening c) entries }
+    ensures { (c : Config) (entries : List Entry) (h : State) → c.ports ≤ most_ports → c.chambers ≤ most_chambers
+        → are_usable c.chambers c.recipes ≡ true → Run (opening c) entries h → EachCompletes (opening c) entries }
 {}
 
 /// The rows that are listed of the input of an entry are those that it fires: it writes what fires no row, and then they fire, in this
@@ -85,8 +88,8 @@ pub fn the_listed_rows_of_an_input_are_those_that_it_fires()
 /// leaves it calm: it executes still, each process job that was left in it is kept and goes on, and no counted substrate is
 /// ABORTED, STOPPED, LOST or SKIPPED that wasn't.
 pub fn an_input_of_which_no_row_disturbs_leaves_it_calm()
-    ensures { (number : ℕ) (counted : ℕ → Bool) (g : State) (entry : Entry) (o : Outcome) → InOrder g.floor
-        → Executes number counted g.floor → input_of g entry ≡ Some o
+    ensures { (number : ℕ) (planned : ℕ → List (List ℕ)) (counted : ℕ → Bool) (g : State) (entry : Entry) (o : Outcome) → InOrder g.floor
+        → Executes number planned counted g.floor → input_of g entry ≡ Some o
         → is_calm number counted g entry ≡ true → IsCalmBetween number counted g.floor o.after.floor }
 {}
 
@@ -104,10 +107,11 @@ pub fn a_done_disturbs_no_control_job()
 {}
 
 /// Where a control job starts in an entry of a history, each process job that is left in it starting by itself and having its
-/// material here, and no row that an input behind fires disturbs it, it has completed behind so many entries exactly where eight
-/// Dones for each counted substrate ended commands in them.
+/// material here, and no row that an input behind fires disturbs it, it has completed behind so many entries exactly where 5 + 3k
+/// Dones for each counted substrate ended commands in them, k being the number of its steps.
 pub fn a_control_job_completes_where_no_row_disturbs_it()
-    ensures { (c : Config) (entries : List Entry) (h : State) → c.ports ≤ most_ports → Run (opening c) entries h
+    ensures { (c : Config) (entries : List Entry) (h : State) → c.ports ≤ most_ports → c.chambers ≤ most_chambers
+        → are_usable c.chambers c.recipes ≡ true → Run (opening c) entries h
         → EachCompletesByRows (opening c) entries }
 {}
 

@@ -32,7 +32,7 @@ use Rattle.process_job.specs.declared.job.ProcessJob.{ProcessJob}
 use Rattle.floor_model.specs.declared.tracked.Substrate.{Substrate}
 use Rattle.floor_model.specs.Floor.{ToolFloor, substrate_numbered}
 use Rattle.floor_model.specs.Jobs.{frees, stops_carriers, gets_members, job_does, found_job_does}
-use Rattle.floor_model.specs.Modules.{issued, goes, transferred, open_task, aligned_by, move_does, found_move}
+use Rattle.floor_model.specs.Modules.{issued, goes, transferred, open_task, aligned_by, stepped_by, move_does, found_move}
 use Rattle.floor_model.specs.Substrates.{can_register, first_substrate, registers_at, registers_slot, registers_slots, registers_at_port, registers_found, reaches_verified, registration_rows, is_of, emptied, removed_of, without_carrier, removed_where, substrate_does, found_does}
 use Rattle.floor_model.specs.Machines.{on_shop, port_machine, carrier_machine, location_machine, transport_machine, processing_machine, process_machine, control_machine, move_machine, floor_fired, creation_rows, registered_by, taken_along}
 use Rattle.floor_model.specs.Views.{planned}
@@ -203,6 +203,13 @@ aligned_given (Some (task.Place sub to)) f = refl
 aligned_given (Some (task.Align sub)) f = refl
 aligned_given (Some (task.Process sub recipe)) f = refl
 
+stepped_given : (t : Option Task) (f : ToolFloor) → (stepped_by t f).places.given ≡ f.places.given
+stepped_given None f = refl
+stepped_given (Some (task.Pick sub from)) f = refl
+stepped_given (Some (task.Place sub to)) f = refl
+stepped_given (Some (task.Align sub)) f = refl
+stepped_given (Some (task.Process sub recipe)) f = refl
+
 move_given : (r : Option MoveRow) (number : ℕ) (plan : Option Move) (f : ToolFloor) → (found_move r number plan f).places.given ≡ f.places.given
 move_given None number plan f = refl
 move_given (Some r) number plan f = of r.does where
@@ -214,6 +221,7 @@ move_given (Some r) number plan f = of r.does where
   of move_word.issues_process = issued_given number plan f
   of move_word.moves = transferred_given (open_task (module_at number f.modules)) f.places
   of move_word.aligns = aligned_given (open_task (module_at number f.modules)) f
+  of move_word.steps = stepped_given (open_task (module_at number f.modules)) f
   of move_word.closes = refl
   of move_word.clears_alarm = refl
 

@@ -1,5 +1,5 @@
 -- One that executes is at work, and one that is at work executes where it is EXECUTING and each process job that is left in it goes on.
-use Rattle.std.proofs.Common.{◌≡◌, ℕ, Bool, true, false, [], ◌∷◌, Option, Some, None, refl, sym, ap}
+use Rattle.std.proofs.Common.{◌≡◌, ℕ, Bool, true, false, List, [], ◌∷◌, Option, Some, None, refl, sym, ap}
 use Rattle.std.proofs.lemmas.Bool.{true≢false}
 use Rattle.std.proofs.lemmas.Bool.Decides.{Decides-eqb}
 use Rattle.gem_tables.specs.Table.{is_one_of}
@@ -29,8 +29,8 @@ pub executing_works : (o : Option ControlJob) → is_executing o ≡ true → is
 executing_works None e = e
 executing_works (Some c) e = ap (is_one_of (3 ∷ 4 ∷ [])) ((Decides-eqb (states_number c.states) 3).0 e)
 
-pub at_work_of : (number : ℕ) (counted : ℕ → Bool) (f : ToolFloor) → Executes number counted f → AtWork number counted f.jobs f
-at_work_of number counted f e = record {
+pub at_work_of : (number : ℕ) (planned : ℕ → List (List ℕ)) (counted : ℕ → Bool) (f : ToolFloor) → Executes number planned counted f → AtWork number planned counted f.jobs f
+at_work_of number planned counted f e = record {
   steers = record {
     works = executing_works (control_numbered number f.jobs.control.jobs) e.steers.executes;
     alone = e.steers.alone;
@@ -46,9 +46,9 @@ at_work_of number counted f e = record {
   substrates = e.substrates;
 }
 
-module _ (number : ℕ) (counted : ℕ → Bool) (f : ToolFloor) where
-  pub executes_of : {before : Jobs} → AtWork number counted before f → is_executing (control_numbered number f.jobs.control.jobs) ≡ true
-      → ((n : ℕ) (j : ProcessJob) → job_numbered n f.jobs.process.kept ≡ Some j → is_left_in number j.id f.jobs ≡ true → goes_on j.states.state ≡ true) → Executes number counted f
+module _ (number : ℕ) (planned : ℕ → List (List ℕ)) (counted : ℕ → Bool) (f : ToolFloor) where
+  pub executes_of : {before : Jobs} → AtWork number planned counted before f → is_executing (control_numbered number f.jobs.control.jobs) ≡ true
+      → ((n : ℕ) (j : ProcessJob) → job_numbered n f.jobs.process.kept ≡ Some j → is_left_in number j.id f.jobs ≡ true → goes_on j.states.state ≡ true) → Executes number planned counted f
   executes_of e executes going = record {
     steers = record { executes = executes; alone = e.steers.alone; auto = e.steers.auto; going = going; started = e.steers.started };
     here = e.here;
@@ -59,5 +59,5 @@ module _ (number : ℕ) (counted : ℕ → Bool) (f : ToolFloor) where
   }
 
   -- so it does where it steers
-  pub executes_by : {before : Jobs} → AtWork number counted before f → Steers number f.jobs → Executes number counted f
+  pub executes_by : {before : Jobs} → AtWork number planned counted before f → Steers number f.jobs → Executes number planned counted f
   executes_by e v = executes_of e v.executes v.going

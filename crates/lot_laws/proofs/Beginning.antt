@@ -27,9 +27,7 @@ use Rattle.place_laws.specs.Picture.{picture, of_one}
 use Rattle.place_laws.specs.Sound.{Sound}
 use Rattle.place_laws.proofs.Holding.{found_among, rising_given}
 use Rattle.floor_laws.proofs.JobSays.{member_tells, any_found}
-use Rattle.owed_laws.specs.Owed.{commands_for}
-use Rattle.owed_laws.proofs.Totals.{sum_same}
-use Rattle.lot_laws.specs.Lot.{one_step, owed_to}
+use Rattle.owed_laws.specs.Owed.{owed_to}
 use Rattle.owed_laws.specs.Undisturbed.{AreUnaligned, Begins}
 use Rattle.owed_laws.proofs.Beginning.{begins_undisturbed, begins_owed}
 use Rattle.queue_laws.specs.Started.{is_queued, is_left_in, AreStarted}
@@ -38,7 +36,7 @@ use Rattle.queue_laws.proofs.Lists.{find_meets, number_is, changed_on}
 use Rattle.queue_laws.proofs.Rows.{starting}
 use Rattle.queue_laws.proofs.Owners.{is_same}
 use Rattle.queue_laws.proofs.Steering.{left_owned, owned_left, started_queued, begin-steers, started_left, left_started}
-use Rattle.lot_laws.specs.Lot.{is_in_named_slot, is_in_found_slot, names_slot, names_left, first_naming, steps_found, steps_named, is_wanted, counted_of, steps_of, total, IsMaterialHere, AreInKeptJobs, Waits, Executes}
+use Rattle.lot_laws.specs.Lot.{is_in_named_slot, is_in_found_slot, names_slot, names_left, first_naming, route_by, route_found, route_named, is_wanted, counted_of, planned_of, total, IsMaterialHere, AreInKeptJobs, Waits, Executes}
 use Rattle.lot_laws.proofs.First.{find_in, some_first, by_name as by_its_name}
 use Rattle.lot_laws.proofs.Naming.{any_numbered, slot_names_carrier, slot_in_use}
 use Rattle.lot_laws.proofs.Standing.{on_base, not_so, Joins, joins_tell, member_begun, carried, named_by}
@@ -55,6 +53,9 @@ module _ (number row : ℕ) (f : ToolFloor) (h : Sound f) (t : AreTogether f.job
   where
     abbrev pub counted : ℕ → Bool
     counted = counted_of number f
+
+    abbrev pub planned : ℕ → List (List ℕ)
+    planned = planned_of number f
 
     -- each process job is QUEUED, so no substrate is in one
     queued : (n : ℕ) (j : ProcessJob) → job_numbered n f.jobs.process.kept ≡ Some j → is_queued j.states.state ≡ true
@@ -106,6 +107,13 @@ module _ (number row : ℕ) (f : ToolFloor) (h : Sound f) (t : AreTogether f.job
           by_name (Some name) r some source needs =
               by_job name r source needs (job_named name f.jobs.process.kept) refl (find_meets (names_slot f x) (names_left (control_numbered number f.jobs.control.jobs)) name r)
 
+    -- what is planned for a counted one is the route of the first job that names its slot
+    plans : (n : ℕ) (w : Wanted n) → planned n ≡ route_by f.jobs.process w.job
+    plans n w =
+        ap (of_one [] (λ (x : Substrate). route_named f.jobs.process (first_naming number f x))) w.found
+        ∙ ap (route_named f.jobs.process) w.first
+        ∙ ap (route_found f.jobs.process) (by_its_name w.job.number f.jobs.process.kept w.job t.process.apart w.its)
+
     pub begins : Begins counted (picture f)
     begins = record {
       no_member = λ n. not_so ((picture f).jobs.is_member n) (λ is. let m = member_tells f.substrates f.jobs n (λ j. true) is in in_none n m.one m.job m.found m.its);
@@ -149,7 +157,7 @@ module _ (number row : ℕ) (f : ToolFloor) (h : Sound f) (t : AreTogether f.job
     left_now : (job : List ℕ) → is_left_in number job behind.jobs ≡ true → is_left_in number job f.jobs ≡ true
     left_now job left = started_left number f.jobs t s row (is_first_here number f) c at starts its_row job left
 
-    pub executes_then : Executes number counted (floor_fired (firing 15 number row) f)
+    pub executes_then : Executes number planned counted (floor_fired (firing 15 number row) f)
     executes_then = record {
       steers = begin-steers number f.jobs t s row (is_first_here number f) c at starts its_row auto;
       here = λ k j e left. here k j e (left_now j.id left);
@@ -158,13 +166,14 @@ module _ (number row : ℕ) (f : ToolFloor) (h : Sound f) (t : AreTogether f.job
       all = λ n k x j found its left joins. takes n k x j found its (left_now j.id left) (joins_tell j f x joins);
       substrates = (begins_undisturbed counted (picture f) h.valid begins unaligned).substrates;
     } where
-      waits : (n : ℕ) (x : Substrate) → substrate_numbered n f.substrates ≡ Some x → Wanted n → Waits number x behind
+      waits : (n : ℕ) (x : Substrate) → substrate_numbered n f.substrates ≡ Some x → Wanted n → Waits number (planned n) x behind
       waits n x found w = record {
         at = w.job.number;
         job = w.job;
         kept = w.its;
         left = left_then w.job.id w.left;
         first = first_then x ∙ ap (first_naming number f) (sym same) ∙ w.first;
+        goes_by = sym (plans n w);
         queued = queued w.job.number w.job w.its;
         joins = subst (λ (y : Substrate). can_join w.job f.shop y ≡ true) same
             (both (is_at_source w.one.states.transport && is_needing w.one.states.processing) ((w.one.job == 0) && is_in_named_slot w.job f.shop w.one)
@@ -192,15 +201,6 @@ module _ (number row : ℕ) (f : ToolFloor) (h : Sound f) (t : AreTogether f.job
 
     -- ---- what is owed
 
-    -- each counted one takes the steps of the first job that names its slot
-    takes_one : (n : ℕ) → counted n ≡ true → steps_of number f n ≡ 1
-    takes_one n is =
-        let w = wanted n is in
-        ap (of_one 0 (λ (x : Substrate). steps_named f.jobs.process (first_naming number f x))) w.found
-        ∙ ap (steps_named f.jobs.process) w.first
-        ∙ ap (steps_found f.jobs.process) (by_its_name w.job.number f.jobs.process.kept w.job t.process.apart w.its)
-
-    pub owed_then : owed_to counted (picture (floor_fired (firing 15 number row) f)) ≡ total number f
+    pub owed_then : owed_to planned counted (picture (floor_fired (firing 15 number row) f)) ≡ total number f
     owed_then =
-        begins_owed counted (picture f) h.valid begins (one_step (picture f))
-        ∙ sum_same counted (λ (n : ℕ). commands_for 1) (λ (n : ℕ). commands_for (steps_of number f n)) (picture f).substrates (λ n kept is. ap commands_for (sym (takes_one n is)))
+        begins_owed counted (picture f) h.valid begins planned

@@ -64,46 +64,46 @@ kind number counted before f x starts common leaves =
 
 -- ---- as an input comes
 
-module _ (number : ℕ) (counted : ℕ → Bool) (before f : ToolFloor) (sound : Sound f) where
-  goes_on : (g : ToolFloor) → (AtWork number counted before.jobs f → WorksOn number counted before.jobs f g) → (Disturbed number counted before f → Disturbed number counted before g) → WorksOrIsDisturbed number counted before f → WorksOrIsDisturbed number counted before g
+module _ (number : ℕ) (planned : ℕ → List (List ℕ)) (counted : ℕ → Bool) (before f : ToolFloor) (sound : Sound f) where
+  goes_on : (g : ToolFloor) → (AtWork number planned counted before.jobs f → WorksOn number planned counted before.jobs f g) → (Disturbed number counted before f → Disturbed number counted before g) → WorksOrIsDisturbed number planned counted before f → WorksOrIsDisturbed number planned counted before g
   goes_on g work stays (inl w) = let on = work w.0 in inl (on.0, on.2 ∙ w.1)
   goes_on g work stays (inr d) = inr (stays d)
 
   -- a row that an input fires alone and that leaves the jobs
-  pub row-goes : (x : Firing) → floor_starts x f ≡ true → is_common x ≡ true → leaves_jobs number counted before x ≡ true → WorksOrIsDisturbed number counted before f → WorksOrIsDisturbed number counted before (floor_fired x f)
+  pub row-goes : (x : Firing) → floor_starts x f ≡ true → is_common x ≡ true → leaves_jobs number counted before x ≡ true → WorksOrIsDisturbed number planned counted before f → WorksOrIsDisturbed number planned counted before (floor_fired x f)
   row-goes x starts common leaves =
-      goes_on (floor_fired x f) (λ e. row-works number counted f sound e x starts (kind number counted before f x starts common leaves)) (λ d. disturbed-row number counted before f d x starts leaves)
+      goes_on (floor_fired x f) (λ e. row-works number planned counted f sound e x starts (kind number counted before f x starts common leaves)) (λ d. disturbed-row number counted before f d x starts leaves)
 
   -- a command is fetched
-  pub fetched-goes : (m : ℕ) → WorksOrIsDisturbed number counted before f → WorksOrIsDisturbed number counted before (fetched m f)
-  fetched-goes m = goes_on (fetched m f) (λ e. fetched-works number counted f e m) (λ d. disturbed-fetched number counted before f m d)
+  pub fetched-goes : (m : ℕ) → WorksOrIsDisturbed number planned counted before f → WorksOrIsDisturbed number planned counted before (fetched m f)
+  fetched-goes m = goes_on (fetched m f) (λ e. fetched-works number planned counted f e m) (λ d. disturbed-fetched number counted before f m d)
 
   -- the host writes of a carrier
-  pub written-goes : (a : CarrierAction) → is_done_code (carrier_code f.shop a) ≡ true → WorksOrIsDisturbed number counted before f → WorksOrIsDisturbed number counted before (with_shop (carrier_written a f.shop) f)
-  written-goes a code = goes_on (with_shop (carrier_written a f.shop) f) (λ e. written-works number counted f sound e a code) (λ d. disturbed-shop number counted before f (carrier_written a f.shop) d)
+  pub written-goes : (a : CarrierAction) → is_done_code (carrier_code f.shop a) ≡ true → WorksOrIsDisturbed number planned counted before f → WorksOrIsDisturbed number planned counted before (with_shop (carrier_written a f.shop) f)
+  written-goes a code = goes_on (with_shop (carrier_written a f.shop) f) (λ e. written-works number planned counted f sound e a code) (λ d. disturbed-shop number counted before f (carrier_written a f.shop) d)
 
   -- CancelCarrier of a carrier that no process job names
-  pub cancelled-goes : (n : ℕ) (c : Carrier) → carrier_numbered n f.shop.carriers ≡ Some c → is_any_of_carrier c.name f.jobs ≡ false → WorksOrIsDisturbed number counted before f → WorksOrIsDisturbed number counted before (floor_fired (firing 10 n 4) f)
+  pub cancelled-goes : (n : ℕ) (c : Carrier) → carrier_numbered n f.shop.carriers ≡ Some c → is_any_of_carrier c.name f.jobs ≡ false → WorksOrIsDisturbed number planned counted before f → WorksOrIsDisturbed number planned counted before (floor_fired (firing 10 n 4) f)
   cancelled-goes n c known unnamed =
-      goes_on (floor_fired (firing 10 n 4) f) (λ e. cancelled-works number counted f sound e n c known unnamed) (λ d. disturbed-shop number counted before f (with_carrier n (carriers.fires_row 10 4) f.shop) d)
+      goes_on (floor_fired (firing 10 n 4) f) (λ e. cancelled-works number planned counted f sound e n c known unnamed) (λ d. disturbed-shop number counted before f (with_carrier n (carriers.fires_row 10 4) f.shop) d)
 
   -- a binding is cancelled
-  pub unbinding-goes : (port : ℕ) → floor_starts (firing 7 port 2) f ≡ true → ((name : List ℕ) → owner (port_numbered port f.shop.ports) ≡ Some name → NonePresent name f.shop.carriers) → WorksOrIsDisturbed number counted before f
-      → WorksOrIsDisturbed number counted before (floor_fired (firing 7 port 2) f)
-  unbinding-goes port starts none = goes_on (floor_fired (firing 7 port 2) f) (λ e. unbinding-works number counted f sound e port starts none) (λ d. disturbed-shop number counted before f (shop.floor_fired (firing 7 port 2) f.shop) d)
+  pub unbinding-goes : (port : ℕ) → floor_starts (firing 7 port 2) f ≡ true → ((name : List ℕ) → owner (port_numbered port f.shop.ports) ≡ Some name → NonePresent name f.shop.carriers) → WorksOrIsDisturbed number planned counted before f
+      → WorksOrIsDisturbed number planned counted before (floor_fired (firing 7 port 2) f)
+  unbinding-goes port starts none = goes_on (floor_fired (firing 7 port 2) f) (λ e. unbinding-works number planned counted f sound e port starts none) (λ d. disturbed-shop number counted before f (shop.floor_fired (firing 7 port 2) f.shop) d)
 
   -- a carrier is placed
-  pub placing-goes : (port : ℕ) (name : Option (List ℕ)) (slots : List ℕ) → floor_starts (firing 4 port 3) f ≡ true → WorksOrIsDisturbed number counted before f
-      → WorksOrIsDisturbed number counted before (floor_fired (firing 4 port 3) (with_shop (came port (arrival_of port name slots f.shop.carriers) f.shop) f))
+  pub placing-goes : (port : ℕ) (name : Option (List ℕ)) (slots : List ℕ) → floor_starts (firing 4 port 3) f ≡ true → WorksOrIsDisturbed number planned counted before f
+      → WorksOrIsDisturbed number planned counted before (floor_fired (firing 4 port 3) (with_shop (came port (arrival_of port name slots f.shop.carriers) f.shop) f))
   placing-goes port name slots starts =
-      goes_on (floor_fired (firing 4 port 3) (with_shop (came port (arrival_of port name slots f.shop.carriers) f.shop) f)) (λ e. placing-works number counted f sound e port name slots starts)
+      goes_on (floor_fired (firing 4 port 3) (with_shop (came port (arrival_of port name slots f.shop.carriers) f.shop) f)) (λ e. placing-works number planned counted f sound e port name slots starts)
       (λ d. disturbed-shop number counted before f (shop.floor_fired (firing 4 port 3) (came port (arrival_of port name slots f.shop.carriers) f.shop)) d)
 
   -- a carrier is removed from a port to which none belongs
-  pub removal_left-goes : (port : ℕ) → floor_starts (firing 4 port 5) f ≡ true → WorksOrIsDisturbed number counted before f → WorksOrIsDisturbed number counted before (floor_fired (firing 4 port 5) f)
-  removal_left-goes port starts = goes_on (floor_fired (firing 4 port 5) f) (λ e. vacated-works number counted f sound e port starts) (λ d. disturbed-shop number counted before f (shop.floor_fired (firing 4 port 5) f.shop) d)
+  pub removal_left-goes : (port : ℕ) → floor_starts (firing 4 port 5) f ≡ true → WorksOrIsDisturbed number planned counted before f → WorksOrIsDisturbed number planned counted before (floor_fired (firing 4 port 5) f)
+  removal_left-goes port starts = goes_on (floor_fired (firing 4 port 5) f) (λ e. vacated-works number planned counted f sound e port starts) (λ d. disturbed-shop number counted before f (shop.floor_fired (firing 4 port 5) f.shop) d)
 
 -- where it executes, and a carrier is removed with its substrates, it is at work still
-pub removal-goes : (number : ℕ) (counted : ℕ → Bool) (f : ToolFloor) → Sound f → Executes number counted f → (port : ℕ) → floor_starts (firing 4 port 5) f ≡ true → floor_starts (firing 7 port 6) (floor_fired (firing 4 port 5) f) ≡ true
-    → shop.floor_least f.shop ≡ None → WorksOrIsDisturbed number counted f (floor_fired (firing 7 port 6) (floor_fired (firing 4 port 5) f))
-removal-goes number counted f sound e port starts next rests = let on = removed-works number counted port f sound (at_work_of number counted f e) starts next rests in inl (on.0, on.2)
+pub removal-goes : (number : ℕ) (planned : ℕ → List (List ℕ)) (counted : ℕ → Bool) (f : ToolFloor) → Sound f → Executes number planned counted f → (port : ℕ) → floor_starts (firing 4 port 5) f ≡ true → floor_starts (firing 7 port 6) (floor_fired (firing 4 port 5) f) ≡ true
+    → shop.floor_least f.shop ≡ None → WorksOrIsDisturbed number planned counted f (floor_fired (firing 7 port 6) (floor_fired (firing 4 port 5) f))
+removal-goes number planned counted f sound e port starts next rests = let on = removed-works number planned counted port f sound (at_work_of number planned counted f e) starts next rests in inl (on.0, on.2)

@@ -17,7 +17,6 @@ use Rattle.control_job.specs.Tables.{state_number, states_number}
 use Rattle.control_job.specs.Names.{is_in}
 use Rattle.control_job.specs.Jobs.{job_numbered as control_numbered, owns, is_open, fired_at}
 use Rattle.control_job.specs.declared.job.ControlJob.{ControlJob}
-use Rattle.control_job.specs.declared.record.ControlState.TheVariants.{Queued}
 use Rattle.control_job.specs.declared.record.ControlJobRecord.{ControlJobRecord}
 use Rattle.control_job.proofs.Called.{numbered_in}
 use Rattle.tool_jobs.specs.Jobs.{owner}
@@ -36,12 +35,11 @@ use Rattle.floor_moves.specs.Floor.{Loc, is_done}
 use Rattle.place_laws.specs.Picture.{picture}
 use Rattle.place_laws.specs.Sound.{Sound}
 use Rattle.place_laws.proofs.Holding.{one_found, found_among}
-use Rattle.place_laws.proofs.OneStep.{one_left}
 use Rattle.floor_laws.proofs.JobSight.{none_some, in_slot_from, removed_from}
 use Rattle.floor_laws.proofs.JobWork.{finished_same}
 use Rattle.floor_laws.proofs.JobSays.{said_there}
-use Rattle.lot_laws.specs.Lot.{one_step, owed_to}
-use Rattle.owed_laws.proofs.Beginning.{nothing_left, each_done}
+use Rattle.owed_laws.specs.Owed.{owed_to}
+use Rattle.owed_laws.proofs.Beginning.{step_to_come, nothing_left, each_done}
 use Rattle.queue_laws.specs.Started.{is_left_in, AreStarted}
 use Rattle.queue_laws.specs.Steers.{has_none_left, goes_on, disturbs_control, is_completion}
 use Rattle.queue_laws.proofs.Rows.{active_open, executed, by_executing}
@@ -51,6 +49,7 @@ use Rattle.lot_laws.specs.Lot.{IsInJob, Waits, Executes}
 use Rattle.lot_laws.proofs.Naming.{any_numbered}
 use Rattle.lot_laws.proofs.Standing.{on_base, member_left}
 use Rattle.lot_laws.proofs.AtWork.{at_work_of}
+use Rattle.lot_laws.proofs.Planned.{are_planned}
 use Rattle.lot_laws.proofs.Steering.{row_names}
 use Rattle.lot_laws.proofs.Going.{controls-execute}
 
@@ -112,14 +111,14 @@ module _ (finds : JobWant → Bool) where
 three_reads : (s : ControlJobRecord) → (states_number s == 3) ≡ true → ((state_number s.state == 3) && not (is_ending s.ending)) ≡ true
 three_reads s e = by_executing (λ (x : ControlJobRecord). ((state_number x.state == 3) && not (is_ending x.ending)) ≡ true) refl s e
 
-module _ (number : ℕ) (counted : ℕ → Bool) (f : ToolFloor) (h : Sound f) (t : AreTogether f.jobs) (s : AreStarted f.jobs) (e : Executes number counted f) where
+module _ (number : ℕ) (planned : ℕ → List (List ℕ)) (counted : ℕ → Bool) (f : ToolFloor) (h : Sound f) (t : AreTogether f.jobs) (s : AreStarted f.jobs) (e : Executes number planned counted f) where
   -- ---- rows that leave it as it is
 
   pub control-executes : (row m : ℕ) (d : ControlJob) → control_numbered m f.jobs.control.jobs ≡ Some d → control_starts row (Some d) (is_first_here m f) f.jobs ≡ true
-      → disturbs_control number m row ≡ false → is_completion number m row ≡ false → Executes number counted (floor_fired (firing 15 m row) f)
+      → disturbs_control number m row ≡ false → is_completion number m row ≡ false → Executes number planned counted (floor_fired (firing 15 m row) f)
   control-executes row m d at starts calm on =
-      controls-execute number counted f (fired_at m row f.jobs.control) (λ job. control_left number f.jobs t s e.steers row m (is_first_here m f) d at starts calm on job)
-      (row_names number f.jobs f.jobs t s (at_work_of number counted f e).steers row m) t s e
+      controls-execute number planned counted f (fired_at m row f.jobs.control) (λ job. control_left number f.jobs t s e.steers row m (is_first_here m f) d at starts calm on job)
+      (row_names number f.jobs f.jobs t s (at_work_of number planned counted f e).steers row m) t s e
       (control-steers number f.jobs t s e.steers row m (is_first_here m f) d at starts calm on)
 
   -- ---- it completes
@@ -128,18 +127,18 @@ module _ (number : ℕ) (counted : ℕ → Bool) (f : ToolFloor) (h : Sound f) (
   mine = found_executing number f.jobs e.steers.executes
 
   -- where no process job is left in it, each counted one is done
-  none_left_owed : has_none_left (control_numbered number f.jobs.control.jobs) ≡ true → owed_to counted (picture f) ≡ 0
-  none_left_owed none = nothing_left (one_step (picture f)) counted (picture f) (λ n kept is. let x = one_found number_of n f.substrates kept in by n x.0 x.1 (e.stands n x.0 x.1 is)) where
+  none_left_owed : has_none_left (control_numbered number f.jobs.control.jobs) ≡ true → owed_to planned counted (picture f) ≡ 0
+  none_left_owed none = nothing_left planned counted (picture f) (λ n kept is. let x = one_found number_of n f.substrates kept in by n x.0 x.1 (e.stands n x.0 x.1 is)) where
     never : (job : List ℕ) → is_left_in number job f.jobs ≡ true → ⊥
     never job left = none_owned job mine.job (subst (λ (o : Option ControlJob). has_none_left o ≡ true) mine.at none) (left_owned number job f.jobs mine.job mine.at left)
 
-    by : (n : ℕ) (x : Substrate) → substrate_numbered n f.substrates ≡ Some x → (is_done n (picture f) ≡ true) ⊎ (IsInJob number x f ⊎ Waits number x f) → is_done n (picture f) ≡ true
+    by : (n : ℕ) (x : Substrate) → substrate_numbered n f.substrates ≡ Some x → (is_done n (picture f) ≡ true) ⊎ (IsInJob number (planned n) x f ⊎ Waits number (planned n) x f) → is_done n (picture f) ≡ true
     by n x found (inl done) = done
-    by n x found (inr (inl its)) = absurd (never its.0.id (member_left number counted f (on_base f h.base) e n x its.0 found its.1))
+    by n x found (inr (inl its)) = absurd (never its.0.id (member_left number planned counted f (on_base f h.base) e n x its.0 found its.1))
     by n x found (inr (inr w)) = absurd (never w.job.id w.left)
 
   -- so nothing is owed where its completion is ready
-  pub completion_owes_none : (here : Bool) (row : ℕ) → control_ready (control_numbered number f.jobs.control.jobs) here f.jobs ≡ Some row → owed_to counted (picture f) ≡ 0
+  pub completion_owes_none : (here : Bool) (row : ℕ) → control_ready (control_numbered number f.jobs.control.jobs) here f.jobs ≡ Some row → owed_to planned counted (picture f) ≡ 0
   completion_owes_none here row ready = none_left_owed (of (has_none_left (control_numbered number f.jobs.control.jobs)) (sym (completes number f.jobs t s e.steers here) ∙ ready)) where
     of : (b : Bool) → cond b (Some 8) None ≡ Some row → b ≡ true
     of true q = refl
@@ -148,7 +147,7 @@ module _ (number : ℕ) (counted : ℕ → Bool) (f : ToolFloor) (h : Sound f) (
   -- ---- at rest something is owed
 
   -- where each counted one is done, a job is settled
-  all_settled : owed_to counted (picture f) ≡ 0 → (n : ℕ) (j : ProcessJob) → job_numbered n f.jobs.process.kept ≡ Some j → j.number ≡ n → is_settled j.number f ≡ true
+  all_settled : owed_to planned counted (picture f) ≡ 0 → (n : ℕ) (j : ProcessJob) → job_numbered n f.jobs.process.kept ≡ Some j → j.number ≡ n → is_settled j.number f ≡ true
   all_settled zero n j kept same = all_numbered (is_done_with j.number f.places) 0 f.places.given f.substrates h.base.rising each where
     back : (k : ℕ) (x : Substrate) → substrate_numbered k f.substrates ≡ Some x → is_done k (picture f) ≡ true → (is_finished x.states.processing && (is_in_slot x f.places || is_removed x f.places)) ≡ true
     back k x found done =
@@ -171,10 +170,10 @@ module _ (number : ℕ) (counted : ℕ → Bool) (f : ToolFloor) (h : Sound f) (
       of true q =
           let its : job_numbered x.job f.jobs.process.kept ≡ Some j = subst (λ (i : ℕ). job_numbered i f.jobs.process.kept ≡ Some j) (sym same ∙ sym ((Decides-eqb x.job j.number).0 q)) kept in
           let is = e.members k (said_there f.substrates f.jobs k false (λ i. true) x j found its) in
-          back k x found (each_done (one_step (picture f)) counted (picture f) h.valid (λ i c at unfinished. one_left (picture f).chambers) zero k (found_among number_of k f.substrates x found) is)
+          back k x found (each_done planned counted (picture f) h.valid (step_to_come planned (picture f) h.valid (are_planned number planned counted f h.base e)) zero k (found_among number_of k f.substrates x found) is)
 
   -- the first that is left in it isn't at rest
-  first_not_at_rest : owed_to counted (picture f) ≡ 0 → (name : List ℕ) (names : List (List ℕ)) → mine.job.left ≡ name ∷ names
+  first_not_at_rest : owed_to planned counted (picture f) ≡ 0 → (name : List ℕ) (names : List (List ℕ)) → mine.job.left ≡ name ∷ names
       → ((o : ℕ) → is_one_of (process_numbers f.jobs.process.kept) o ≡ true → process_ready (job_numbered o f.jobs.process.kept) (found_sight (job_numbered o f.jobs.process.kept) f) f.jobs ≡ None) → ⊥
   first_not_at_rest zero name names is rest =
       let its_own : owns name mine.job ≡ true = both (is_open mine.job) (is_in name mine.job.left) (ap not (active_open mine.job.states.state (executed mine.job.states mine.three).active)) (ap (is_in name) is ∙ ap (λ (b : Bool). b || is_in name names) (own_name name)) in
@@ -196,7 +195,7 @@ module _ (number : ℕ) (counted : ℕ → Bool) (f : ToolFloor) (h : Sound f) (
           (λ q. both (is_first_left j.id (owner j.id f.jobs)) (is_here j f.shop) first (e.here j.number j found left))
           (ap not auto) auto (λ q. all_settled zero j.number j found refl) refl none
 
-  pub rest_owes : floor_least f ≡ None → owed_to counted (picture f) ≡ 0 → ⊥
+  pub rest_owes : floor_least f ≡ None → owed_to planned counted (picture f) ≡ 0 → ⊥
   rest_owes rest zero = by_left mine.job.left refl where
     controls : control_ready (control_numbered number f.jobs.control.jobs) (is_first_here number f) f.jobs ≡ None
     controls = (none_ready f rest).control_job number (numbered_in number mine.job f.jobs.control.jobs mine.at)

@@ -50,7 +50,7 @@ use Rattle.floor_laws.proofs.JobSight.{none_some, some_same}
 use Rattle.floor_laws.proofs.JobLists.{job_number_is, fired_there, fired_else, fired_was, without_else, found_more}
 use Rattle.floor_laws.proofs.JobFires.{fired_jobs}
 use Rattle.floor_laws.proofs.JobEnds.{freed_alone}
-use Rattle.lot_laws.specs.Lot.{owed_to}
+use Rattle.owed_laws.specs.Owed.{owed_to}
 use Rattle.queue_laws.specs.Started.{is_left_in, AreStarted}
 use Rattle.queue_laws.specs.Steers.{is_executing, goes_on}
 use Rattle.queue_laws.proofs.Lists.{numbered_changed, gone_back}
@@ -148,12 +148,8 @@ one_more n x (y ∷ ys) s e = of (y.number == n) e (one_more n x ys s) where
   of true q later = q
   of false q later = later q
 
+-- what is disturbed isn't calm
 module _ (number : ℕ) (counted : ℕ → Bool) (before : ToolFloor) where
-  -- ---- the base, and the end
-
-  pub at_base : Executes number counted before → WorksOrIsDisturbed number counted before before
-  at_base e = inl (at_work_of number counted before e, refl)
-
   pub disturbed_not_calm : (f : ToolFloor) → Disturbed number counted before f → IsCalmBetween number counted before f → ⊥
   disturbed_not_calm f (ends is) calm = ending_not_executing (control_numbered number f.jobs.control.jobs) is calm.executes
   disturbed_not_calm f (loses n was less none) calm = let k = calm.going n was.0 was.1 was.2 in none_some k.0 (sym none ∙ k.1)
@@ -164,16 +160,23 @@ module _ (number : ℕ) (counted : ℕ → Bool) (before : ToolFloor) where
   disturbed_not_calm f (spoils n is one other) calm =
       true≢false (sym ((Decides-eqb ((picture f).processing n) ((picture before).processing n)).1 (calm.works n is one)) ∙ other)
 
-  pub executes_at_end : (f : ToolFloor) → WorksOrIsDisturbed number counted before f → IsCalmBetween number counted before f
-      → Executes number counted f × (owed_to counted (picture f) ≡ owed_to counted (picture before))
-  executes_at_end f (inl w) calm = (executes_of number counted f w.0 calm.executes going, w.1) where
+-- ---- the base, and the end
+
+module _ (number : ℕ) (planned : ℕ → List (List ℕ)) (counted : ℕ → Bool) (before : ToolFloor) where
+  pub at_base : Executes number planned counted before → WorksOrIsDisturbed number planned counted before before
+  at_base e = inl (at_work_of number planned counted before e, refl)
+
+  pub executes_at_end : (f : ToolFloor) → WorksOrIsDisturbed number planned counted before f → IsCalmBetween number counted before f
+      → Executes number planned counted f × (owed_to planned counted (picture f) ≡ owed_to planned counted (picture before))
+  executes_at_end f (inl w) calm = (executes_of number planned counted f w.0 calm.executes going, w.1) where
     going : (n : ℕ) (j : ProcessJob) → job_numbered n f.jobs.process.kept ≡ Some j → is_left_in number j.id f.jobs ≡ true → goes_on j.states.state ≡ true
     going n j kept left =
         let was = w.0.steers.were n j kept left in
         let k = calm.going n was.0 was.1 was.2 in
         ap (λ (x : ProcessJob). goes_on x.states.state) (sym (some_same k.0 j (sym k.1 ∙ kept))) ∙ k.2
-  executes_at_end f (inr d) calm = absurd (disturbed_not_calm f d calm)
+  executes_at_end f (inr d) calm = absurd (disturbed_not_calm number counted before f d calm)
 
+module _ (number : ℕ) (counted : ℕ → Bool) (before : ToolFloor) where
   -- ---- changes that leave the jobs, and what processing says of substrates
 
   module _ (f : ToolFloor) where

@@ -1,5 +1,5 @@
 -- Done of an open command takes one off what is owed, and the control job executes on.
-use Rattle.std.proofs.Common.{◌≡◌, ℕ, ◌==◌, Bool, true, false, if◌then◌else◌, not, ◌&&◌, map, Some, refl, sym, ◌∙◌, ap, subst, ◌⊎◌}
+use Rattle.std.proofs.Common.{◌≡◌, ℕ, ◌==◌, Bool, true, false, if◌then◌else◌, not, ◌&&◌, map, List, Some, refl, sym, ◌∙◌, ap}
 use Rattle.std.proofs.lemmas.Bool.{true≢false, and_parts}
 use Rattle.std.proofs.lemmas.Bool.Decides.{Decides-eqb}
 use Rattle.gem_tables.specs.Table.{is_one_of, after}
@@ -8,7 +8,6 @@ use Rattle.substrate.specs.Tables.{processing_number, processing_table}
 use Rattle.substrate.specs.Record.{is_at_source, is_needing}
 use Rattle.substrate.specs.declared.record.Processing.{Processing}
 use Rattle.substrate.specs.declared.record.Processing.TheVariants as processing
-use Rattle.process_job.specs.Jobs.{job_numbered}
 use Rattle.process_job.specs.declared.job.ProcessJob.{ProcessJob}
 use Rattle.tool_jobs.proofs.Rows.{after_meets}
 use Rattle.floor_model.specs.declared.tracked.Substrate.{Substrate}
@@ -23,15 +22,12 @@ use Rattle.floor_moves.specs.Valid.{Valid}
 use Rattle.place_laws.specs.Picture.{picture}
 use Rattle.place_laws.specs.Sound.{Base}
 use Rattle.picture_laws.proofs.Rows.{processing_agrees}
-use Rattle.floor_laws.proofs.JobSight.{none_some, some_same}
-use Rattle.floor_laws.proofs.JobLists.{none_first}
-use Rattle.floor_laws.proofs.JobSays.{member_tells}
-use Rattle.lot_laws.specs.Lot.{owed_to}
+use Rattle.owed_laws.specs.Owed.{owed_to}
 use Rattle.owed_laws.specs.Undisturbed.{Undisturbed}
-use Rattle.owed_laws.proofs.Agreeing.{agree-undisturbed}
-use Rattle.lot_laws.proofs.Owing.{agree-owed}
-use Rattle.lot_laws.specs.Lot.{is_in_named_slot, Waits, Executes}
+use Rattle.owed_laws.proofs.Agreeing.{agree-undisturbed, agree-owed}
+use Rattle.lot_laws.specs.Lot.{is_in_named_slot, Executes}
 use Rattle.lot_laws.proofs.Standing.{joins_tell}
+use Rattle.lot_laws.proofs.Planned.{waits_free}
 use Rattle.lot_laws.proofs.Substrates.{change-executes}
 
 -- the number of the state of processing behind a row
@@ -53,25 +49,17 @@ needing_before row processing.Rejected e = absurd (not_both (is_needing (after p
 needing_before row processing.Lost e = absurd (not_both (is_needing (after processing_number processing_table row processing.Lost)) (after_meets processing_number (λ (x : Processing). not (is_needing x)) (λ n. false) row processing.Lost processing_table refl refl refl) e)
 needing_before row processing.Skipped e = absurd (not_both (is_needing (after processing_number processing_table row processing.Skipped)) (after_meets processing_number (λ (x : Processing). not (is_needing x)) (λ n. false) row processing.Skipped processing_table refl refl refl) e)
 
-module _ (number : ℕ) (counted : ℕ → Bool) (f : ToolFloor) (b : Base f) (e : Executes number counted f) where
-  -- one that waits is in no job
-  waits_free : (k : ℕ) (x : Substrate) → substrate_numbered k f.substrates ≡ Some x → Waits number x f → (picture f).jobs.is_member k ≡ true → ⊥
-  waits_free k x found w is =
-      let m = member_tells f.substrates f.jobs k (λ j. true) is in
-      let one : x ≡ m.one = some_same x m.one (sym found ∙ m.found) in
-      let zero : m.one.job ≡ 0 = (Decides-eqb m.one.job 0).0 (subst (λ (y : Substrate). (y.job == 0) ≡ true) one (joins_tell w.job f x w.joins).free) in
-      none_some m.job (sym (none_first f.jobs.process.given f.jobs.process.kept b.jobs.numbered) ∙ subst (λ (i : ℕ). job_numbered i f.jobs.process.kept ≡ Some m.job) zero m.its)
-
+module _ (number : ℕ) (planned : ℕ → List (List ℕ)) (counted : ℕ → Bool) (f : ToolFloor) (b : Base f) (e : Executes number planned counted f) where
   -- ---- a row of table 13 of a member that isn't finished yet
 
-  module _ (n row : ℕ) (s : Substrate) (at : substrate_numbered n f.substrates ≡ Some s) (member : (picture f).jobs.is_member n ≡ true) (unfinished : law.is_finished ((picture f).processing n) ≡ false)
+  module _ (n row : ℕ) (s : Substrate) (at : substrate_numbered n f.substrates ≡ Some s) (ends : (row == 3) ≡ true → law.is_finished (state_behind row s) ≡ true) (member : (picture f).jobs.is_member n ≡ true) (unfinished : law.is_finished ((picture f).processing n) ≡ false)
       (valid : Valid (worked n (state_behind row s) (picture f))) (stands_then : Undisturbed counted (worked n (state_behind row s) (picture f)))
     where
       agrees : Agree (worked n (state_behind row s) (picture f)) (picture (with_moved 13 row n f))
-      agrees = processing_agrees f n row s at
+      agrees = processing_agrees f n row s at ends
 
-      pub worked_owed : owed_to counted (picture (with_moved 13 row n f)) ≡ owed_to counted (worked n (state_behind row s) (picture f))
-      worked_owed = agree-owed (worked n (state_behind row s) (picture f)) (picture (with_moved 13 row n f)) agrees counted
+      pub worked_owed : owed_to planned counted (picture (with_moved 13 row n f)) ≡ owed_to planned counted (worked n (state_behind row s) (picture f))
+      worked_owed = agree-owed (worked n (state_behind row s) (picture f)) (picture (with_moved 13 row n f)) agrees planned counted
 
       -- one that is done stays so, and isn't the one of the row
       done_on : (k : ℕ) → is_one_of (map number_of f.substrates) k ≡ true → is_done k (picture f) ≡ true → is_done k (picture (with_moved 13 row n f)) ≡ true
@@ -89,7 +77,7 @@ module _ (number : ℕ) (counted : ℕ → Bool) (f : ToolFloor) (b : Base f) (e
           (both (is_at_source x.states.transport) (is_needing x.states.processing) tells.source (needing_before row x.states.processing tells.needs))
           (both (x.job == 0) (is_in_named_slot j f.shop x) tells.free tells.named)
 
-      pub worked-executes : Executes number counted (with_moved 13 row n f)
+      pub worked-executes : Executes number planned counted (with_moved 13 row n f)
       worked-executes =
-          change-executes number counted f e n (substrate_moves 13 row) (λ x. refl) (λ x. refl) (λ x. (refl, refl)) f.modules agrees.jobs.is_member done_on (λ x found w. absurd (waits_free n x found w member)) takes
+          change-executes number planned counted f e n (substrate_moves 13 row) (λ x. refl) (λ x. refl) (λ x. (refl, refl)) f.modules agrees.jobs.is_member done_on (λ x found route w. absurd (waits_free number route f b n x found w member)) takes
           (agree-undisturbed (worked n (state_behind row s) (picture f)) (picture (with_moved 13 row n f)) agrees counted valid stands_then).substrates

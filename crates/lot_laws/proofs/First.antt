@@ -115,14 +115,14 @@ named_more name (x ∷ xs) new e = of (bytes_eq x.id name) e (named_more name xs
   of true f later = refl
   of false f later = later f
 
--- one that is found by its number is found behind a row, under its name
-pub named_on : (n row k : ℕ) (js : List ProcessJob) (j : ProcessJob) → job_numbered k js ≡ Some j → (i : ProcessJob) × (job_numbered k (change_numbered n (fires_row row) js) ≡ Some i) × (i.id ≡ j.id)
+-- one that is found by its number is found behind a row, under its name and with its recipe
+pub named_on : (n row k : ℕ) (js : List ProcessJob) (j : ProcessJob) → job_numbered k js ≡ Some j → (i : ProcessJob) × (job_numbered k (change_numbered n (fires_row row) js) ≡ Some i) × (i.id ≡ j.id) × (i.recipe ≡ j.recipe)
 named_on n row k js j e = of (k == n) refl where
-  of : (b : Bool) → (k == n) ≡ b → (i : ProcessJob) × (job_numbered k (change_numbered n (fires_row row) js) ≡ Some i) × (i.id ≡ j.id)
+  of : (b : Bool) → (k == n) ≡ b → (i : ProcessJob) × (job_numbered k (change_numbered n (fires_row row) js) ≡ Some i) × (i.id ≡ j.id) × (i.recipe ≡ j.recipe)
   of true q =
       let same : k ≡ n = (Decides-eqb k n).0 q in
-      (fires_row row j, subst (λ (m : ℕ). job_numbered m (change_numbered n (fires_row row) js) ≡ Some (fires_row row j)) (sym same) (fired_there n row js ∙ ap (option_map (fires_row row)) (subst (λ (m : ℕ). job_numbered m js ≡ Some j) same e)), refl)
-  of false q = (j, fired_else n row k (λ same. true≢false (sym ((Decides-eqb k n).1 same) ∙ q)) js ∙ e, refl)
+      (fires_row row j, subst (λ (m : ℕ). job_numbered m (change_numbered n (fires_row row) js) ≡ Some (fires_row row j)) (sym same) (fired_there n row js ∙ ap (option_map (fires_row row)) (subst (λ (m : ℕ). job_numbered m js ≡ Some j) same e)), refl, refl)
+  of false q = (j, fired_else n row k (λ same. true≢false (sym ((Decides-eqb k n).1 same) ∙ q)) js ∙ e, refl, refl)
 
 -- ---- the first that names its slot
 

@@ -19,9 +19,8 @@ use Rattle.place_laws.specs.Sound.{Sound}
 use Rattle.floor_laws.proofs.JobSight.{none_some, some_same}
 use Rattle.floor_laws.proofs.JobChanges.{IsJobAlone, numbers_map, found_map, says_map}
 use Rattle.floor_laws.proofs.JobSays.{member_tells}
-use Rattle.lot_laws.specs.Lot.{owed_to}
-use Rattle.owed_laws.proofs.Agreeing.{agree-undisturbed}
-use Rattle.lot_laws.proofs.Owing.{agree-owed}
+use Rattle.owed_laws.specs.Owed.{owed_to}
+use Rattle.owed_laws.proofs.Agreeing.{agree-undisturbed, agree-owed}
 use Rattle.queue_laws.specs.Started.{is_left_in, AreStarted}
 use Rattle.queue_laws.specs.Steers.{Steers}
 use Rattle.lot_laws.specs.Lot.{names_slot, names_left, first_naming, IsInJob, Waits, Executes, IsAtWork, AtWork}
@@ -48,7 +47,7 @@ module _ (f : ToolFloor) (change : Substrate → Substrate) (alone : IsJobAlone 
     place_of = λ n. refl;
     processing = λ n _. processing_same n;
     is_aligned = λ n _. says_map change alone false (λ (s : Substrate). s.aligned) (λ s. ap (λ (x : Substrate). x.aligned) (alone s)) n f.substrates;
-    steps_of = λ k _ _. refl;
+    steps_of = λ n _ _. says_map change alone 0 (λ (s : Substrate). s.steps) (λ s. ap (λ (x : Substrate). x.steps) (alone s)) n f.substrates;
     carriers = refl;
     present_at = λ c. refl;
     is_verified = λ c _. refl;
@@ -79,15 +78,15 @@ module _ (f : ToolFloor) (change : Substrate → Substrate) (alone : IsJobAlone 
     of (Some x) q g = (x, q, some_same (change x) y g)
 
   -- as much is owed
-  pub behind_owed : (counted : ℕ → Bool) → owed_to counted (picture behind) ≡ owed_to counted (picture f)
-  behind_owed counted = agree-owed (picture f) (record (picture behind) { jobs = (picture f).jobs }) behind_agrees counted
+  pub behind_owed : (planned : ℕ → List (List ℕ)) (counted : ℕ → Bool) → owed_to planned counted (picture behind) ≡ owed_to planned counted (picture f)
+  behind_owed planned counted = agree-owed (picture f) (record (picture behind) { jobs = (picture f).jobs }) behind_agrees planned counted
 
   -- ---- when it stays at work
 
-  module _ (number : ℕ) (counted : ℕ → Bool) (before : Jobs) where
+  module _ (number : ℕ) (planned : ℕ → List (List ℕ)) (counted : ℕ → Bool) (before : Jobs) where
     -- how a counted one stands
     abbrev pub Stands : ℕ → Substrate → ToolFloor → Type 0
-    Stands n x g = (is_done n (picture f) ≡ true) ⊎ (IsInJob number x g ⊎ Waits number x g)
+    Stands n x g = (is_done n (picture f) ≡ true) ⊎ (IsInJob number (planned n) x g ⊎ Waits number (planned n) x g)
 
     -- Of the jobs it is so. What is left in it was, of the same material. Who is in a job is counted. Each counted one stands, and what a job can
     -- take that is left in it is counted.
@@ -100,26 +99,26 @@ module _ (f : ToolFloor) (change : Substrate → Substrate) (alone : IsJobAlone 
       pub joins : (n k : ℕ) (x : Substrate) (i : ProcessJob) → substrate_numbered n f.substrates ≡ Some x → job_numbered k w.process.kept ≡ Some i → is_left_in number i.id w ≡ true
           → can_join i f.shop (change x) ≡ true → counted n ≡ true
 
-    pub works_on : Sound f → AtWork number counted before f → GoesOn → AtWork number counted before behind
+    pub works_on : Sound f → AtWork number planned counted before f → GoesOn → AtWork number planned counted before behind
     works_on h e goes = record {
       steers = goes.steers;
       here = λ k i kept left. let b = goes.left k i kept left in ap (λ (ms : List Material). list_all (is_material_here f.shop) ms) b.4 ∙ e.here b.0 b.1 b.2 b.3;
       members = λ n is. let m = member_tells (map change f.substrates) w n (λ j. true) is in let b = found_before n m.one m.found in goes.members n b.0 m.job b.1 (ap (λ (x : Substrate). job_of x w) b.2 ∙ m.its);
       stands = λ n y found is. let b = found_before n y found in by n y (subst (λ (x : Substrate). Stands n x behind) b.2 (goes.stands n b.0 b.1 is (e.stands n b.0 b.1 is)));
       all = λ n k y i found kept left can. let b = found_before n y found in goes.joins n k b.0 i b.1 kept left (ap (λ (x : Substrate). can_join i f.shop x) b.2 ∙ can);
-      substrates = (agree-undisturbed (picture f) (record (picture behind) { jobs = (picture f).jobs }) behind_agrees counted h.valid (work-undisturbed number counted f (on_base f h.base) e)).substrates;
+      substrates = (agree-undisturbed (picture f) (record (picture behind) { jobs = (picture f).jobs }) behind_agrees counted h.valid (work-undisturbed number planned counted f (on_base f h.base) e)).substrates;
     } where
-      by : (n : ℕ) (y : Substrate) → Stands n y behind → (is_done n (picture behind) ≡ true) ⊎ (IsInJob number y behind ⊎ Waits number y behind)
+      by : (n : ℕ) (y : Substrate) → Stands n y behind → (is_done n (picture behind) ≡ true) ⊎ (IsInJob number (planned n) y behind ⊎ Waits number (planned n) y behind)
       by n y (inl done) = inl (done_same n ∙ done)
       by n y (inr rest) = inr rest
 
 -- ---- where control jobs change
 
-module _ (number : ℕ) (counted : ℕ → Bool) (f : ToolFloor) (c : JobStore) (same : (job : List ℕ) → is_left_in number job (record f.jobs { control = c }) ≡ is_left_in number job f.jobs)
+module _ (number : ℕ) (planned : ℕ → List (List ℕ)) (counted : ℕ → Bool) (f : ToolFloor) (c : JobStore) (same : (job : List ℕ) → is_left_in number job (record f.jobs { control = c }) ≡ is_left_in number job f.jobs)
     (names : names_left (control_numbered number c.jobs) ≡ names_left (control_numbered number f.jobs.control.jobs))
   where
     -- it stays at work, where the same process jobs are left in it, in their order
-    pub controls-work : {before : Jobs} → AtWork number counted before f → IsAtWork number before (record f.jobs { control = c }) → AtWork number counted before (with_jobs (record f.jobs { control = c }) f)
+    pub controls-work : {before : Jobs} → AtWork number planned counted before f → IsAtWork number before (record f.jobs { control = c }) → AtWork number planned counted before (with_jobs (record f.jobs { control = c }) f)
     controls-work e steers = record {
       steers = steers;
       here = λ k j kept left. e.here k j kept (sym (same j.id) ∙ left);
@@ -131,14 +130,14 @@ module _ (number : ℕ) (counted : ℕ → Bool) (f : ToolFloor) (c : JobStore) 
       first : (x : Substrate) → first_naming number (with_jobs (record f.jobs { control = c }) f) x ≡ first_naming number f x
       first x = ap (find (names_slot f x)) names
 
-      by : (n : ℕ) (x : Substrate) → (is_done n (picture f) ≡ true) ⊎ (IsInJob number x f ⊎ Waits number x f) → (is_done n (picture f) ≡ true) ⊎ (IsInJob number x (with_jobs (record f.jobs { control = c }) f) ⊎ Waits number x (with_jobs (record f.jobs { control = c }) f))
+      by : (n : ℕ) (x : Substrate) → (is_done n (picture f) ≡ true) ⊎ (IsInJob number (planned n) x f ⊎ Waits number (planned n) x f) → (is_done n (picture f) ≡ true) ⊎ (IsInJob number (planned n) x (with_jobs (record f.jobs { control = c }) f) ⊎ Waits number (planned n) x (with_jobs (record f.jobs { control = c }) f))
       by n x (inl done) = inl done
-      by n x (inr (inl its)) = inr (inl (its.0, its.1, first x ∙ its.2))
-      by n x (inr (inr w)) = inr (inr (record { at = w.at; job = w.job; kept = w.kept; left = same w.job.id ∙ w.left; first = first x ∙ w.first; queued = w.queued; joins = w.joins }))
+      by n x (inr (inl its)) = inr (inl (its.0, its.1, first x ∙ its.2, its.3))
+      by n x (inr (inr w)) = inr (inr (record { at = w.at; job = w.job; kept = w.kept; left = same w.job.id ∙ w.left; first = first x ∙ w.first; goes_by = w.goes_by; queued = w.queued; joins = w.joins }))
 
     -- it executes on, where it steers
-    pub controls-execute : AreTogether f.jobs → AreStarted f.jobs → Executes number counted f → Steers number (record f.jobs { control = c }) → Executes number counted (with_jobs (record f.jobs { control = c }) f)
+    pub controls-execute : AreTogether f.jobs → AreStarted f.jobs → Executes number planned counted f → Steers number (record f.jobs { control = c }) → Executes number planned counted (with_jobs (record f.jobs { control = c }) f)
     controls-execute t s e v =
-        let at_work = at_work_of number counted f e in
-        executes_by number counted (with_jobs (record f.jobs { control = c }) f)
+        let at_work = at_work_of number planned counted f e in
+        executes_by number planned counted (with_jobs (record f.jobs { control = c }) f)
         (controls-work at_work (control-works number f.jobs f.jobs t s at_work.steers c (executing_works (control_numbered number c.jobs) v.executes) v.alone same)) v

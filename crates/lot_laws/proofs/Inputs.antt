@@ -29,7 +29,7 @@ use Rattle.lot_laws.proofs.Going.{controls-work, controls-execute}
 use Rattle.lot_laws.proofs.Answers.{places-executes}
 use Rattle.lot_laws.proofs.Failing.{fetched_same}
 
-module _ (number : ℕ) (counted : ℕ → Bool) (f : ToolFloor) (h : Sound f) (t : AreTogether f.jobs) (s : AreStarted f.jobs) {before : Jobs} (e : AtWork number counted before f) where
+module _ (number : ℕ) (planned : ℕ → List (List ℕ)) (counted : ℕ → Bool) (f : ToolFloor) (h : Sound f) (t : AreTogether f.jobs) (s : AreStarted f.jobs) {before : Jobs} (e : AtWork number planned counted before f) where
   -- ---- a process job is created
 
   module _ (spec : JobSpec) (free : create_fault spec f.jobs.process ≡ None) where
@@ -68,7 +68,7 @@ module _ (number : ℕ) (counted : ℕ → Bool) (f : ToolFloor) (h : Sound f) (
         find_alike (names_slot (with_jobs (with_process spec f.jobs) f) x) (names_slot f x) (names_left (control_numbered number f.jobs.control.jobs))
         (λ name i. ap (λ (o : Option ProcessJob). is_in_found_slot o f.shop x) (named_more name f.jobs.process.kept (created (f.jobs.process.given + 1) spec) (name_left_kept number before f.jobs t s e.steers name i)))
 
-    pub created-work : AtWork number counted before (with_jobs (with_process spec f.jobs) f)
+    pub created-work : AtWork number planned counted before (with_jobs (with_process spec f.jobs) f)
     created-work = record {
       steers = created-works number before f.jobs t s e.steers spec free;
       here = λ k j q left. e.here k j (back k j q left) left;
@@ -77,43 +77,43 @@ module _ (number : ℕ) (counted : ℕ → Bool) (f : ToolFloor) (h : Sound f) (
       all = λ n k x j found q left can. e.all n k x j found (back k j q left) left can;
       substrates = e.substrates;
     } where
-      by : (n : ℕ) (x : Substrate) → (is_done n (picture f) ≡ true) ⊎ (IsInJob number x f ⊎ Waits number x f) → (is_done n (picture f) ≡ true) ⊎ (IsInJob number x (with_jobs (with_process spec f.jobs) f) ⊎ Waits number x (with_jobs (with_process spec f.jobs) f))
+      by : (n : ℕ) (x : Substrate) → (is_done n (picture f) ≡ true) ⊎ (IsInJob number (planned n) x f ⊎ Waits number (planned n) x f) → (is_done n (picture f) ≡ true) ⊎ (IsInJob number (planned n) x (with_jobs (with_process spec f.jobs) f) ⊎ Waits number (planned n) x (with_jobs (with_process spec f.jobs) f))
       by n x (inl done) = inl done
-      by n x (inr (inl its)) = inr (inl (its.0, more_on x.job f.jobs.process.kept its.0 its.1, first_on x ∙ its.2))
-      by n x (inr (inr w)) = inr (inr (record { at = w.at; job = w.job; kept = more_on w.at f.jobs.process.kept w.job w.kept; left = w.left; first = first_on x ∙ w.first; queued = w.queued; joins = w.joins }))
+      by n x (inr (inl its)) = inr (inl (its.0, more_on x.job f.jobs.process.kept its.0 its.1, first_on x ∙ its.2, its.3))
+      by n x (inr (inr w)) = inr (inr (record { at = w.at; job = w.job; kept = more_on w.at f.jobs.process.kept w.job w.kept; left = w.left; first = first_on x ∙ w.first; goes_by = w.goes_by; queued = w.queued; joins = w.joins }))
 
   -- ---- a control job is created, and the order of the queue changes
 
-  pub added-work : (name : List ℕ) (named : List (List ℕ)) (auto : Bool) → control_fault name named f.jobs ≡ None → AtWork number counted before (with_jobs (with_control name named auto f.jobs) f)
+  pub added-work : (name : List ℕ) (named : List (List ℕ)) (auto : Bool) → control_fault name named f.jobs ≡ None → AtWork number planned counted before (with_jobs (with_control name named auto f.jobs) f)
   added-work name named auto free =
-      controls-work number counted f (with_control name named auto f.jobs).control (λ job. added_same number before f.jobs t s e.steers name named auto free job)
+      controls-work number planned counted f (with_control name named auto f.jobs).control (λ job. added_same number before f.jobs t s e.steers name named auto free job)
       (added_names number before f.jobs t s e.steers name named auto free) e
       (added-works number before f.jobs t s e.steers name named auto free)
 
-  pub headed-work : (name : List ℕ) → AtWork number counted before (with_jobs (record f.jobs { control = headed name f.jobs.control }) f)
+  pub headed-work : (name : List ℕ) → AtWork number planned counted before (with_jobs (record f.jobs { control = headed name f.jobs.control }) f)
   headed-work name =
-      controls-work number counted f (headed name f.jobs.control) (λ job. refl) refl e
+      controls-work number planned counted f (headed name f.jobs.control) (λ job. refl) refl e
       (control-works number before f.jobs t s e.steers (headed name f.jobs.control) e.steers.works e.steers.alone (λ job. refl))
 
-module _ (number : ℕ) (counted : ℕ → Bool) (f : ToolFloor) (h : Sound f) (t : AreTogether f.jobs) (s : AreStarted f.jobs) (e : Executes number counted f) where
-  pub created-executes : (spec : JobSpec) → create_fault spec f.jobs.process ≡ None → Executes number counted (with_jobs (with_process spec f.jobs) f)
+module _ (number : ℕ) (planned : ℕ → List (List ℕ)) (counted : ℕ → Bool) (f : ToolFloor) (h : Sound f) (t : AreTogether f.jobs) (s : AreStarted f.jobs) (e : Executes number planned counted f) where
+  pub created-executes : (spec : JobSpec) → create_fault spec f.jobs.process ≡ None → Executes number planned counted (with_jobs (with_process spec f.jobs) f)
   created-executes spec free =
-      executes_by number counted (with_jobs (with_process spec f.jobs) f) (created-work number counted f h t s (at_work_of number counted f e) spec free)
+      executes_by number planned counted (with_jobs (with_process spec f.jobs) f) (created-work number planned counted f h t s (at_work_of number planned counted f e) spec free)
       (created-steers number f.jobs t s e.steers spec free)
 
-  pub added-executes : (name : List ℕ) (named : List (List ℕ)) (auto : Bool) → control_fault name named f.jobs ≡ None → Executes number counted (with_jobs (with_control name named auto f.jobs) f)
+  pub added-executes : (name : List ℕ) (named : List (List ℕ)) (auto : Bool) → control_fault name named f.jobs ≡ None → Executes number planned counted (with_jobs (with_control name named auto f.jobs) f)
   added-executes name named auto free =
-      controls-execute number counted f (with_control name named auto f.jobs).control (λ job. added_left number f.jobs t s e.steers name named auto free job)
-      (added_names number f.jobs f.jobs t s (at_work_of number counted f e).steers name named auto free) t s e
+      controls-execute number planned counted f (with_control name named auto f.jobs).control (λ job. added_left number f.jobs t s e.steers name named auto free job)
+      (added_names number f.jobs f.jobs t s (at_work_of number planned counted f e).steers name named auto free) t s e
       (added-steers number f.jobs t s e.steers name named auto free)
 
-  pub headed-executes : (name : List ℕ) → Executes number counted (with_jobs (record f.jobs { control = headed name f.jobs.control }) f)
-  headed-executes name = controls-execute number counted f (headed name f.jobs.control) (λ job. refl) refl t s e (headed-steers number f.jobs t s e.steers name)
+  pub headed-executes : (name : List ℕ) → Executes number planned counted (with_jobs (record f.jobs { control = headed name f.jobs.control }) f)
+  headed-executes name = controls-execute number planned counted f (headed name f.jobs.control) (λ job. refl) refl t s e (headed-steers number f.jobs t s e.steers name)
 
 -- ---- a command is fetched
 
-pub fetched-executes : (number : ℕ) (counted : ℕ → Bool) (f : ToolFloor) → Executes number counted f → (m : ℕ) → Executes number counted (fetched m f)
-fetched-executes number counted f e m = places-executes number counted f e f.places (change_module m taken f.modules) (λ k is. is) (record {
+pub fetched-executes : (number : ℕ) (planned : ℕ → List (List ℕ)) (counted : ℕ → Bool) (f : ToolFloor) → Executes number planned counted f → (m : ℕ) → Executes number planned counted (fetched m f)
+fetched-executes number planned counted f e m = places-executes number planned counted f e f.places (change_module m taken f.modules) (λ k is. is) (record {
   here = e.substrates.here;
   finished = e.substrates.finished;
   in_slot = e.substrates.in_slot;

@@ -1,17 +1,17 @@
 -- A control job executes on where a command is issued: a Place to a chamber names an unfinished substrate.
-use Rattle.std.proofs.Common.{◌≡◌, ℕ, ◌==◌, ◌-◌, Bool, true, false, not, ◌&&◌, if◌then◌else◌, [], ◌∷◌, Option, Some, None, option_map, refl, sym, ◌∙◌, ap, subst, ◌⊎◌, inl, inr}
+use Rattle.std.proofs.Common.{◌≡◌, ℕ, ◌==◌, ◌-◌, Bool, true, false, not, ◌&&◌, if◌then◌else◌, List, [], ◌∷◌, Option, Some, None, option_map, refl, sym, ◌∙◌, ap, subst, ◌⊎◌, inl, inr}
 use Rattle.gem_tables.specs.Table.{is_one_of, firing}
 use Rattle.gem_ids.specs.declared.numbers.LocId.{LocId}
 use Rattle.gem_ids.specs.declared.numbers.LocId.TheVariants.{Slot, Aligner, Arm, Chamber}
 use Rattle.tool_tasks.specs.declared.task.Task.TheVariants as task
 use Rattle.robot_moves.specs.Modules.{module_at, is_idle}
-use Rattle.robot_moves.specs.Moves.{holder, free_target, best_pick, move_by, place_move, pick_move, arm_move, robot_move, align_move, aligner_move, process_move, chamber_move}
+use Rattle.robot_moves.specs.Moves.{is_next, holder, free_target, best_pick, move_by, place_move, pick_move, arm_move, robot_move, align_move, aligner_move, process_move, chamber_move}
 use Rattle.robot_moves.specs.declared.view.PlaceView.{PlaceView}
 use Rattle.robot_moves.specs.declared.view.Move.{Move}
 use Rattle.robot_moves.proofs.Giving.{move_is}
 use Rattle.floor_model.specs.declared.tracked.Substrate.{Substrate}
 use Rattle.floor_model.specs.Floor.{ToolFloor}
-use Rattle.floor_model.specs.Views.{views, planned}
+use Rattle.floor_model.specs.Views.{views, planned as plan_of}
 use Rattle.floor_model.specs.Modules.{issued as given_to}
 use Rattle.floor_model.specs.Machines.{floor_fired}
 use Rattle.floor_model.proofs.Moves.{is_idle_module, gives}
@@ -25,10 +25,9 @@ use Rattle.picture_laws.proofs.Issuing.{issuing_agrees}
 use Rattle.floor_laws.proofs.IssueViews.{IsSeen, IsView, holder_seen}
 use Rattle.floor_laws.proofs.IssueTargets.{IsTarget, free_target_is}
 use Rattle.floor_laws.proofs.IssuePlans.{planned_may}
-use Rattle.lot_laws.specs.Lot.{one_step, owed_to}
+use Rattle.owed_laws.specs.Owed.{owed_to}
 use Rattle.owed_laws.proofs.Columns.{issued-stays}
-use Rattle.owed_laws.proofs.Agreeing.{agree-undisturbed}
-use Rattle.lot_laws.proofs.Owing.{agree-owed}
+use Rattle.owed_laws.proofs.Agreeing.{agree-undisturbed, agree-owed}
 use Rattle.lot_laws.specs.Lot.{IsInJob, Waits, Executes}
 use Rattle.lot_laws.proofs.Standing.{on_base, undisturbed}
 
@@ -90,26 +89,26 @@ module _ (f : ToolFloor) (b : Base f) where
     of : (o : Option PlaceView) → process_move k o ≡ Some move → Fits move
     of None e = absurd (cc)
     of (Some w) e =
-        let wanted : Some (move_by k 4 (task.Process w.sub w.recipe)) ≡ Some move = where_so (not w.finished && not w.in_process) (Some (move_by k 4 (task.Process w.sub w.recipe))) move e in
+        let wanted : Some (move_by k 4 (task.Process w.sub w.recipe)) ≡ Some move = where_so (not w.finished && is_next w (k - 2)) (Some (move_by k 4 (task.Process w.sub w.recipe))) move e in
         let same : move_by k 4 (task.Process w.sub w.recipe) ≡ move = cc in
         subst (λ (x : Move). Fits x) same (λ n c t. absurd (cc))
 
-  pub planned_fits : (m : ℕ) (move : Move) → planned m f ≡ Some move → (n c : ℕ) → task_of move.task f.places ≡ law.place n (law.chamber c) → law.is_finished ((picture f).processing n) ≡ false
+  pub planned_fits : (m : ℕ) (move : Move) → plan_of m f ≡ Some move → (n c : ℕ) → task_of move.task f.places ≡ law.place n (law.chamber c) → law.is_finished ((picture f).processing n) ≡ false
   planned_fits m move e = of (m == 1) (m == 2) e where
     of : (first second : Bool) → (if first then robot_move (views f) f.modules else (if second then aligner_move (views f) f.modules else chamber_move m (views f) f.modules)) ≡ Some move → Fits move
     of true second e = by_robot move e
     of false true e = by_aligner move e
     of false false e = by_chamber m move e
 
-module _ (number : ℕ) (counted : ℕ → Bool) (f : ToolFloor) (h : Sound f) (e : Executes number counted f) where
+module _ (number : ℕ) (planned : ℕ → List (List ℕ)) (counted : ℕ → Bool) (f : ToolFloor) (h : Sound f) (e : Executes number planned counted f) where
   abbrev Keeps : ToolFloor → Type 0
-  Keeps g = Executes number counted g × (owed_to counted (picture g) ≡ owed_to counted (picture f))
+  Keeps g = Executes number planned counted g × (owed_to planned counted (picture g) ≡ owed_to planned counted (picture f))
 
-  given-executes : (m : ℕ) (o : Option Move) → planned m f ≡ o → Keeps (given_to m o f)
+  given-executes : (m : ℕ) (o : Option Move) → plan_of m f ≡ o → Keeps (given_to m o f)
   given-executes m None q = (e, refl)
   given-executes m (Some move) q =
       let agrees = issuing_agrees m move f (is_idle_module (module_at m f.modules) (move_is m (views f) f.modules move q).idle) in
-      let stays = issued-stays (one_step (picture f)) counted (picture f) (undisturbed number counted f (on_base f h.base) e) m (task_of move.task f.places) (planned_fits f h.base m move q) in
+      let stays = issued-stays planned counted (picture f) (undisturbed number planned counted f (on_base f h.base) e) m (task_of move.task f.places) (planned_fits f h.base m move q) in
       let valid = issued-keeps (picture f) m (task_of move.task f.places) (planned_may f h.base h.valid m move q) h.valid in (
         record {
           steers = e.steers;
@@ -119,14 +118,14 @@ module _ (number : ℕ) (counted : ℕ → Bool) (f : ToolFloor) (h : Sound f) (
           all = e.all;
           substrates = (agree-undisturbed (issued m (task_of move.task f.places) (picture f)) (picture (given_to m (Some move) f)) agrees counted valid stays.0).substrates;
         },
-        agree-owed (issued m (task_of move.task f.places) (picture f)) (picture (given_to m (Some move) f)) agrees counted ∙ stays.1,
+        agree-owed (issued m (task_of move.task f.places) (picture f)) (picture (given_to m (Some move) f)) agrees planned counted ∙ stays.1,
       )
     where
-      by : (n : ℕ) (x : Substrate) → (is_done n (picture f) ≡ true) ⊎ (IsInJob number x f ⊎ Waits number x f) → (is_done n (picture f) ≡ true) ⊎ (IsInJob number x (given_to m (Some move) f) ⊎ Waits number x (given_to m (Some move) f))
+      by : (n : ℕ) (x : Substrate) → (is_done n (picture f) ≡ true) ⊎ (IsInJob number (planned n) x f ⊎ Waits number (planned n) x f) → (is_done n (picture f) ≡ true) ⊎ (IsInJob number (planned n) x (given_to m (Some move) f) ⊎ Waits number (planned n) x (given_to m (Some move) f))
       by n x (inl done) = inl done
       by n x (inr (inl its)) = inr (inl its)
-      by n x (inr (inr w)) = inr (inr (record { at = w.at; job = w.job; kept = w.kept; left = w.left; first = w.first; queued = w.queued; joins = w.joins }))
+      by n x (inr (inr w)) = inr (inr (record { at = w.at; job = w.job; kept = w.kept; left = w.left; first = w.first; goes_by = w.goes_by; queued = w.queued; joins = w.joins }))
 
   -- rows 1 to 4 of table 16
-  pub issue-executes : (m row : ℕ) → is_one_of (1 ∷ 2 ∷ 3 ∷ 4 ∷ []) row ≡ true → Executes number counted (floor_fired (firing 16 m row) f) × (owed_to counted (picture (floor_fired (firing 16 m row) f)) ≡ owed_to counted (picture f))
-  issue-executes m row is = subst (λ (g : ToolFloor). Executes number counted g × (owed_to counted (picture g) ≡ owed_to counted (picture f))) (sym (gives row m f is)) (given-executes m (planned m f) refl)
+  pub issue-executes : (m row : ℕ) → is_one_of (1 ∷ 2 ∷ 3 ∷ 4 ∷ []) row ≡ true → Executes number planned counted (floor_fired (firing 16 m row) f) × (owed_to planned counted (picture (floor_fired (firing 16 m row) f)) ≡ owed_to planned counted (picture f))
+  issue-executes m row is = subst (λ (g : ToolFloor). Executes number planned counted g × (owed_to planned counted (picture g) ≡ owed_to planned counted (picture f))) (sym (gives row m f is)) (given-executes m (plan_of m f) refl)

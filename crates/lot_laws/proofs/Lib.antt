@@ -1,8 +1,8 @@
 pub mod AtWork
 pub mod Naming
 pub mod First
-pub mod Owing
 pub mod Standing
+pub mod Planned
 pub mod Works
 pub mod Steering
 pub mod Beginning
@@ -21,7 +21,6 @@ pub mod Registering
 pub mod Inputs
 pub mod InJobs
 pub mod Equipment
-pub mod Processed
 pub mod Ordered
 pub mod Orderly
 pub mod Failing

@@ -14,7 +14,6 @@ use Rattle.substrate.specs.declared.registered.Registered.{Registered}
 use Rattle.substrate.specs.declared.record.Processing.{Processing}
 use Rattle.substrate.specs.declared.record.Processing.TheVariants as processing
 use Rattle.process_job.specs.declared.job.ProcessJob.{ProcessJob}
-use Rattle.robot_moves.specs.declared.module.Module.{Module}
 use Rattle.tool_jobs.specs.Jobs.{Jobs}
 use Rattle.tool_jobs.specs.Together.{AreTogether}
 use Rattle.tool_jobs.proofs.Rows.{after_meets}
@@ -22,11 +21,11 @@ use Rattle.floor_model.specs.declared.tracked.Substrate.{Substrate}
 use Rattle.floor_model.specs.Floor.{ToolFloor, substrate_numbered, change_numbered, number_of}
 use Rattle.floor_model.specs.Floor.{RiseTo}
 use Rattle.floor_model.specs.Jobs.{job_of}
+use Rattle.floor_model.specs.Modules.{stepped}
 use Rattle.floor_model.specs.Substrates.{can_register, first_substrate, registers_at, registers_slot, registers_slots, registers_at_port, registers_found}
 use Rattle.floor_model.specs.Machines.{substrate_moves}
 use Rattle.floor_moves.specs.Floor.{Loc, slot, is_finished}
 use Rattle.place_laws.specs.Picture.{loc_of, place_in, of_one}
-use Rattle.place_laws.specs.Processed.{has_process, AreProcessed}
 use Rattle.place_laws.specs.Sound.{Sound}
 use Rattle.place_laws.proofs.Holding.{found_among, rising_given}
 use Rattle.picture_laws.proofs.Columns.{says_same, found_there, found_else}
@@ -50,21 +49,20 @@ abbrev pub KeptIn : List Substrate → Jobs → Type 0
 KeptIn ss w = (n : ℕ) (s : Substrate) → substrate_numbered n ss ≡ Some s → (s.job == 0) ≡ false → (j : ProcessJob) × (job_of s w ≡ Some j)
 
 -- what holds besides what is sound
-pub record Ordered (ms : List Module) (p : PlaceMap) (ss : List Substrate) (w : Jobs) : Type 0 where
+pub record Ordered (p : PlaceMap) (ss : List Substrate) (w : Jobs) : Type 0 where
   pub together : AreTogether w
   pub started : AreStarted w
   pub unaligned : UnalignedIn p ss
   pub in_jobs : KeptIn ss w
-  pub processed : AreProcessed ms ss
 
 abbrev pub OrderedAt : ToolFloor → Type 0
-OrderedAt f = Ordered f.modules f.places f.substrates f.jobs
+OrderedAt f = Ordered f.places f.substrates f.jobs
 
 pub to_ordered : (f : ToolFloor) → InOrder f → OrderedAt f
-to_ordered f o = record { together = o.together; started = o.started; unaligned = o.unaligned; in_jobs = o.in_jobs; processed = o.processed }
+to_ordered f o = record { together = o.together; started = o.started; unaligned = o.unaligned; in_jobs = o.in_jobs }
 
 pub in_order : (f : ToolFloor) → Sound f → OrderedAt f → InOrder f
-in_order f sound o = record { sound = sound; together = o.together; started = o.started; unaligned = o.unaligned; in_jobs = o.in_jobs; processed = o.processed }
+in_order f sound o = record { sound = sound; together = o.together; started = o.started; unaligned = o.unaligned; in_jobs = o.in_jobs }
 
 -- ---- a substrate changes
 
@@ -87,6 +85,9 @@ finished_on row _ e = absurd (true≢false (sym e))
 
 pub transport_mild : (row : ℕ) → IsMild (substrate_moves 12 row)
 transport_mild row = record { number = λ s. refl; job = λ s. refl; aligned = λ s. refl; finished = λ s f. f }
+
+pub stepped_mild : IsMild stepped
+stepped_mild = record { number = λ s. refl; job = λ s. refl; aligned = λ s. refl; finished = λ s f. f }
 
 pub processing_mild : (row : ℕ) → IsMild (substrate_moves 13 row)
 processing_mild row = record { number = λ s. refl; job = λ s. refl; aligned = λ s. refl; finished = λ s f. finished_on row s.states.processing f }
@@ -112,15 +113,14 @@ module _ (change : Substrate → Substrate) (mild : IsMild change) (n : ℕ) whe
         ∙ subst (λ (i : ℕ). is_finished (of_one 0 (λ (s : Substrate). processing_number s.states.processing) (substrate_numbered i (change_numbered n change ss))) ≡ false) (sym same) left))
     of false q = sym (ap (λ (o : Option Substrate). is_finished (of_one 0 (λ (s : Substrate). processing_number s.states.processing) o)) (found_else n change mild.number k (λ same. true≢false (sym ((Decides-eqb k n).1 same) ∙ q)) ss)) ∙ left
 
-  pub changed-ordered : (f : ToolFloor) (ms : List Module) → Ordered ms f.places f.substrates f.jobs → AreProcessed f.modules (change_numbered n change f.substrates) → Ordered f.modules f.places (change_numbered n change f.substrates) f.jobs
-  changed-ordered f ms o processed = record {
+  pub changed-ordered : (f : ToolFloor) → OrderedAt f → Ordered f.places (change_numbered n change f.substrates) f.jobs
+  changed-ordered f o = record {
     together = o.together;
     started = o.started;
     unaligned = λ k i l at left.
         says_same n change mild.number false (λ (s : Substrate). s.aligned) mild.aligned k f.substrates
         ∙ o.unaligned k i l at (unfinished_back k f.substrates left);
     in_jobs = changed-in_jobs f o.in_jobs n change mild.number mild.job;
-    processed = processed;
   }
 
 -- ---- jobs of substrates change
@@ -129,9 +129,6 @@ pub mapped-unaligned : (change : Substrate → Substrate) → IsJobAlone change 
 mapped-unaligned change alone p ss u n i k at left =
     says_map change alone false (λ (s : Substrate). s.aligned) (λ s. ap (λ (x : Substrate). x.aligned) (alone s)) n ss
     ∙ u n i k at (sym (ap is_finished (says_map change alone 0 (λ (s : Substrate). processing_number s.states.processing) (λ s. ap (λ (x : Substrate). processing_number x.states.processing) (alone s)) n ss)) ∙ left)
-
-pub mapped-processed : (change : Substrate → Substrate) → IsJobAlone change → (ms : List Module) (ss : List Substrate) → AreProcessed ms ss → AreProcessed ms (map change ss)
-mapped-processed change alone ms ss were k = says_map change alone true (has_process ms) (λ s. ap (has_process ms) (alone s)) k ss ∙ were k
 
 -- ---- substrates are registered
 
@@ -188,20 +185,10 @@ module _ (sub : List ℕ) (carrier : ℕ) (loc : LocId) (f : ToolFloor) (h : Ris
     of (inl r) = h.0.in_jobs n y r some
     of (inr r) = absurd (true≢false (sym (ap (λ (x : Substrate). x.job == 0) r.1) ∙ some))
 
-  more-processed : AreProcessed f.modules (f.substrates ++ first_substrate (f.places.given + 1) sub carrier loc ∷ [])
-  more-processed n = of (substrate_numbered n (f.substrates ++ first_substrate (f.places.given + 1) sub carrier loc ∷ [])) refl where
-    by : (y : Substrate) → (substrate_numbered n f.substrates ≡ Some y) ⊎ ((new.number ≡ n) × (y ≡ first_substrate (f.places.given + 1) sub carrier loc)) → has_process f.modules y ≡ true
-    by y (inl r) = sym (ap (of_one true (has_process f.modules)) r) ∙ h.0.processed n
-    by y (inr r) = ap (has_process f.modules) r.1
-
-    of : (o : Option Substrate) → substrate_numbered n (f.substrates ++ first_substrate (f.places.given + 1) sub carrier loc ∷ []) ≡ o → of_one true (has_process f.modules) o ≡ true
-    of None q = refl
-    of (Some y) q = by y (found_either n f.substrates new y q)
-
   registers_one : Rising (registers_at sub carrier loc f)
   registers_one = of (can_register sub loc f.places) where
     of : (b : Bool) → Rising (if b then record f { places = record f.places { held = f.places.held ++ record { sub = sub; number = f.places.given + 1; at = loc } ∷ []; given = f.places.given + 1 }; substrates = f.substrates ++ first_substrate (f.places.given + 1) sub carrier loc ∷ [] } else f)
-    of true = (record { together = h.0.together; started = h.0.started; unaligned = more-unaligned; in_jobs = more-kept; processed = more-processed }, rise_more 0 f.places.given f.substrates new refl h.1)
+    of true = (record { together = h.0.together; started = h.0.started; unaligned = more-unaligned; in_jobs = more-kept }, rise_more 0 f.places.given f.substrates new refl h.1)
     of false = h
 
 registers_in : (c : Carrier) (port : PortNo) (at code : ℕ) (f : ToolFloor) → Rising f → Rising (registers_slot c port at code f)

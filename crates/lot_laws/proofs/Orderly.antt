@@ -1,9 +1,8 @@
 -- What holds of the floor at every moment holds as it begins, and is kept by each row and by what the host and the equipment do.
 use Rattle.std.proofs.Common.{◌≡◌, ◌≤◌, ℕ, ◌+◌, ◌==◌, Bool, true, false, if◌then◌else◌, not, ◌&&◌, ◌||◌, List, [], ◌∷◌, ◌++◌, find, filter, map, Option, Some, None, option_map, refl, sym, ◌∙◌, ap, subst}
-use Rattle.std.specs.List.{list_any}
 use Rattle.std.proofs.lemmas.Bool.{true≢false, and_parts, not-true, not-false}
 use Rattle.std.proofs.lemmas.Bool.Decides.{Decides-eqb}
-use Rattle.gem_tables.specs.Table.{firing, is_one_of, is_among, row_of, after}
+use Rattle.gem_tables.specs.Table.{firing, is_one_of, is_among, row_of}
 use Rattle.gem_tables.specs.declared.firing.Firing.{Firing}
 use Rattle.gem_tables.proofs.Rows.{ready_row, one_of_cases, found_row}
 use Rattle.floor_model.proofs.EachTable.{starts_cases, least_cases}
@@ -25,16 +24,13 @@ use Rattle.shop_floor.specs.Requests.{came, carrier_code, carrier_written}
 use Rattle.shop_floor.specs.Machines as shop
 use Rattle.shop_floor.proofs.Cases.{ready_at_port}
 use Rattle.substrate.specs.Tables.{SubstrateRow, processing_number, processing_table}
-use Rattle.substrate.specs.Record.{is_in_process}
 use Rattle.substrate.specs.declared.record.Processing.{Processing}
 use Rattle.substrate.specs.declared.registered.Registered.{Registered}
 use Rattle.robot_moves.specs.declared.module.Module.{Module}
 use Rattle.robot_moves.specs.declared.module.Module.TheVariants.{Idle, Busy, Down}
 use Rattle.robot_moves.specs.declared.view.Move.{Move}
 use Rattle.robot_moves.specs.Tables.{move_table, state_number}
-use Rattle.robot_moves.specs.declared.module.ModuleState.{ModuleState}
-use Rattle.robot_moves.specs.declared.module.ModuleState.TheVariants as state
-use Rattle.robot_moves.specs.Modules.{module_at, state_of, is_open, is_up, given, taken, change_module}
+use Rattle.robot_moves.specs.Modules.{module_at, state_of, is_open, is_up}
 use Rattle.process_job.specs.Tables as effect
 use Rattle.process_job.specs.Tables.{JobRow, JobEffect, job_table}
 use Rattle.process_job.specs.Jobs.{job_numbered, created, fired as process_state}
@@ -54,28 +50,24 @@ use Rattle.tool_jobs.proofs.Together.{together_none, together_fired, together_en
 use Rattle.floor_model.specs.declared.tracked.Substrate.{Substrate}
 use Rattle.floor_model.specs.Floor.{ToolFloor, opening, with_shop, with_jobs, with_module, fetched, substrate_numbered, change_numbered, number_of}
 use Rattle.floor_model.specs.Jobs.{found_sight, is_first_here, joined, freed, job_does, found_job_does, is_any_of_carrier}
-use Rattle.floor_model.specs.Modules.{move_wants, move_ready, in_state, module_behind, command, issued, open_task, aligned, aligned_numbered, aligned_by, number_named}
-use Rattle.floor_model.specs.Naming.{task_processes, processes}
+use Rattle.floor_model.specs.Modules.{move_wants, move_ready, module_behind, issued, open_task, aligned, aligned_numbered, aligned_by, stepped, stepped_numbered, stepped_by, number_named}
 use Rattle.floor_model.specs.Signals.{at_module, done_row, at_processed, processed_rows, done_processing, at_done, done_processed, done_at, done_rows, closing_at, closing_rows, can_be_lost, lost_at, lost_rows}
 use Rattle.floor_model.specs.Substrates.{is_of, reaches_verified, registers_found, removed_of, without_carrier, removed_where, substrate_does}
 use Rattle.floor_model.specs.Substrates as substrates
-use Rattle.floor_model.specs.Views.{planned}
+use Rattle.floor_model.specs.Views.{goes_on, planned}
 use Rattle.floor_model.specs.Wants.{substrate_wants}
 use Rattle.floor_model.specs.Machines.{substrate_ready, substrate_moves, with_moved, floor_starts, floor_fired, floor_least}
 use Rattle.floor_model.proofs.Keeping.{least_starts}
-use Rattle.floor_moves.specs.Floor.{Loc, slot, arm, aligner, is_finished, place, align, idle}
-use Rattle.floor_moves.proofs.Moving.{idle_not_busy}
+use Rattle.floor_moves.specs.Floor.{Loc, slot, arm, aligner, is_finished, align}
 use Rattle.floor_moves.specs.Valid.{IsDistinct, PlaceStands}
 use Rattle.place_laws.specs.Picture.{picture, loc_of, place_in, numbered, number_or_none, task_of, of_one}
-use Rattle.place_laws.specs.Processed.{has_process, AreProcessed}
 use Rattle.place_laws.specs.Sound.{Base, Sound}
 use Rattle.place_laws.proofs.Holding.{found_among, rising_distinct}
 use Rattle.place_laws.proofs.Stays.{NonePresent}
-use Rattle.picture_laws.proofs.Columns.{says_same, found_there, found_else}
+use Rattle.picture_laws.proofs.Columns.{found_else}
 use Rattle.floor_laws.specs.Rows.{is_common, one_listed, listed}
 use Rattle.floor_laws.proofs.EndProcess.{fetched_sound}
 use Rattle.floor_laws.proofs.EndOpen.{command_of, busy_at}
-use Rattle.floor_laws.proofs.EndAnswers.{process_unnamed}
 use Rattle.floor_laws.proofs.FloorInputs.{listed_either, listed_starts, done_starts, failed_starts, down_starts, done_one, done_sound, failed_sound, down_sound, lost_rows_sound}
 use Rattle.floor_laws.proofs.FloorRemoved.{removed_sound}
 use Rattle.floor_laws.proofs.FloorRows.{row_sound, least_sound, opening_sound}
@@ -92,9 +84,7 @@ use Rattle.floor_laws.proofs.ShopTables.{cancel_sound}
 use Rattle.queue_laws.proofs.Starting.{none-started, process-started, control-started, created-started, added-started, headed-started}
 use Rattle.lot_laws.specs.Lot.{InOrder}
 use Rattle.lot_laws.proofs.InJobs.{changed-in_jobs, process-in_jobs}
-use Rattle.lot_laws.proofs.Equipment.{running_starts}
-use Rattle.lot_laws.proofs.Processed.{any_changed, modules-processed, running_is, finished_by, row-processed, closed-processed}
-use Rattle.lot_laws.proofs.Ordered.{UnalignedIn, Ordered, OrderedAt, to_ordered, in_order, transport_mild, processing_mild, changed-ordered, mapped-unaligned, mapped-processed, registers-ordered}
+use Rattle.lot_laws.proofs.Ordered.{UnalignedIn, Ordered, OrderedAt, to_ordered, in_order, transport_mild, stepped_mild, processing_mild, changed-ordered, mapped-unaligned, registers-ordered}
 use Rattle.floor_laws.proofs.EndLost.{lost_places}
 
 -- ---- the rows of jobs
@@ -134,25 +124,13 @@ job-unaligned f u (Some r) o = by r.does o where
   by effect.ends_stopped None = u
   by effect.ends_stopped (Some j) = mapped-unaligned (freed j.number) (freed_alone j.number) f.places f.substrates u
 
-job-processed : (f : ToolFloor) → AreProcessed f.modules f.substrates → (r : Option JobRow) (o : Option ProcessJob) → AreProcessed (found_job_does r o f).modules (found_job_does r o f).substrates
-job-processed f were None o = were
-job-processed f were (Some r) o = by r.does o where
-  by : (does : JobEffect) (j : Option ProcessJob) → AreProcessed (job_does does j f).modules (job_does does j f).substrates
-  by effect.no_more j = were
-  by effect.makes_members None = were
-  by effect.makes_members (Some j) = mapped-processed (joined j f.shop) (joined_alone f j) f.modules f.substrates were
-  by effect.ends None = were
-  by effect.ends (Some j) = mapped-processed (freed j.number) (freed_alone j.number) f.modules f.substrates were
-  by effect.ends_stopped None = were
-  by effect.ends_stopped (Some j) = mapped-processed (freed j.number) (freed_alone j.number) f.modules f.substrates were
-
 -- ---- rows of a substrate and of a module
 
--- table 13, but for row 8, where it leaves substrates with their open Processes
-pub processing-ordered : (f : ToolFloor) (ms : List Module) → Ordered ms f.places f.substrates f.jobs → (n row : ℕ) → (row == 8) ≡ false → AreProcessed f.modules (change_numbered n (substrate_moves 13 row) f.substrates) → OrderedAt (floor_fired (firing 13 n row) f)
-processing-ordered f ms o n row other processed = of (row_of processing_table row) refl where
+-- table 13, but for row 8
+pub processing-ordered : (f : ToolFloor) → OrderedAt f → (n row : ℕ) → (row == 8) ≡ false → OrderedAt (floor_fired (firing 13 n row) f)
+processing-ordered f o n row other = of (row_of processing_table row) refl where
   same : OrderedAt (with_moved 13 row n f)
-  same = changed-ordered (substrate_moves 13 row) (processing_mild row) n f ms o processed
+  same = changed-ordered (substrate_moves 13 row) (processing_mild row) n f o
 
   of : (r : Option (SubstrateRow Processing)) → row_of processing_table row ≡ r → OrderedAt (with_moved 13 row n (substrates.found_does r (substrate_numbered n f.substrates) f))
   of None is = same
@@ -161,35 +139,15 @@ processing-ordered f ms o n row other processed = of (row_of processing_table ro
       ((λ k. same), ((λ k. same), ((λ k. same), ((λ k. same), ((λ k. same), ((λ k. same), ((λ k. same), ((λ k. absurd (true≢false k)), tt)))))))) is in
       here.0 (ap (λ (i : ℕ). i == 8) here.1 ∙ other)
 
-module _ (f : ToolFloor) (o : OrderedAt f) where
-  -- where an open Process stays open, modules may change
-  with_modules : (ms : List Module) → ((sub : List ℕ) → list_any (processes sub) f.modules ≡ true → list_any (processes sub) ms ≡ true) → Ordered ms f.places f.substrates f.jobs
-  with_modules ms on = record { together = o.together; started = o.started; unaligned = o.unaligned; in_jobs = o.in_jobs; processed = modules-processed f.modules ms f.substrates on o.processed }
-
-  -- rows 1 to 4 and 10 of table 16 leave a Busy module so
-  stays_busy : (row : ℕ) → is_one_of (1 ∷ 2 ∷ 3 ∷ 4 ∷ 10 ∷ []) row ≡ true → (sub : List ℕ) (x : Module) → processes sub x ≡ true → processes sub (module_behind row x) ≡ true
-  stays_busy row one sub (Busy c fetched) e =
-      subst (λ (s : ModuleState). processes sub (in_state s (Busy c fetched)) ≡ true)
-      (sym (one_of_cases (λ (r : ℕ). after state_number move_table r state.Busy ≡ state.Busy) (1 ∷ 2 ∷ 3 ∷ 4 ∷ 10 ∷ []) row (refl, (refl, (refl, (refl, (refl, tt))))) one)) e
-  stays_busy row one sub Idle e = absurd (true≢false (sym e))
-  stays_busy row one sub Down e = absurd (true≢false (sym e))
-
-  stays_given : (c : ToolCommand) (sub : List ℕ) (x : Module) → processes sub x ≡ true → processes sub (given c x) ≡ true
-  stays_given c sub (Busy d fetched) e = e
-  stays_given c sub Idle e = absurd (true≢false (sym e))
-  stays_given c sub Down e = absurd (true≢false (sym e))
-
-  pub module-ordered : (m row : ℕ) → is_one_of (1 ∷ 2 ∷ 3 ∷ 4 ∷ 10 ∷ []) row ≡ true → OrderedAt (floor_fired (firing 16 m row) f)
-  module-ordered m row one =
-      one_of_cases (λ (r : ℕ). is_one_of (1 ∷ 2 ∷ 3 ∷ 4 ∷ 10 ∷ []) r ≡ true → OrderedAt (floor_fired (firing 16 m r) f)) (1 ∷ 2 ∷ 3 ∷ 4 ∷ 10 ∷ []) row
-      ((λ k. gives 1 k (planned m f)), ((λ k. gives 2 k (planned m f)), ((λ k. gives 3 k (planned m f)), ((λ k. gives 4 k (planned m f)), ((λ k. gives 10 k None), tt))))) one one
-    where
-      gives : (r : ℕ) → is_one_of (1 ∷ 2 ∷ 3 ∷ 4 ∷ 10 ∷ []) r ≡ true → (plan : Option Move) → OrderedAt (with_module m (module_behind r) (issued m plan f))
-      gives r k None = with_modules (change_module m (module_behind r) f.modules) (λ sub e. any_changed (processes sub) m (module_behind r) f.modules (λ x _. stays_busy r k sub x) e)
-      gives r k (Some move) =
-          with_modules (change_module m (module_behind r) (change_module m (given (command (f.commands + 1) move.task)) f.modules))
-          (λ sub e. any_changed (processes sub) m (module_behind r) (change_module m (given (command (f.commands + 1) move.task)) f.modules) (λ x _. stays_busy r k sub x)
-          (any_changed (processes sub) m (given (command (f.commands + 1) move.task)) f.modules (λ x _. stays_given (command (f.commands + 1) move.task) sub x) e))
+-- rows 1 to 4 and 10 of table 16
+pub module-ordered : (f : ToolFloor) → OrderedAt f → (m row : ℕ) → is_one_of (1 ∷ 2 ∷ 3 ∷ 4 ∷ 10 ∷ []) row ≡ true → OrderedAt (floor_fired (firing 16 m row) f)
+module-ordered f o m row one =
+    one_of_cases (λ (r : ℕ). OrderedAt (floor_fired (firing 16 m r) f)) (1 ∷ 2 ∷ 3 ∷ 4 ∷ 10 ∷ []) row
+    (gives (planned m f), (gives (planned m f), (gives (planned m f), (gives (planned m f), (o, tt))))) one
+  where
+    gives : (plan : Option Move) → OrderedAt (issued m plan f)
+    gives None = o
+    gives (Some move) = o
 
 -- ---- each row that leaves places and registers nothing but where a map is VERIFIED
 
@@ -228,7 +186,6 @@ module _ (f : ToolFloor) (sound : Sound f) (o : OrderedAt f) where
       started = process-started f.jobs o.together o.started row n (found_sight (job_numbered n f.jobs.process.kept) f) starts;
       unaligned = job-unaligned f o.unaligned (row_of job_table row) (job_numbered n f.jobs.process.kept);
       in_jobs = process-in_jobs f o.in_jobs sound n row j known;
-      processed = job-processed f o.processed (row_of job_table row) (job_numbered n f.jobs.process.kept);
     }
 
   control : (n row : ℕ) → floor_starts (firing 15 n row) f ≡ true → OrderedAt (floor_fired (firing 15 n row) f)
@@ -237,7 +194,6 @@ module _ (f : ToolFloor) (sound : Sound f) (o : OrderedAt f) where
     started = control-started f.jobs o.together o.started row n (is_first_here n f) starts;
     unaligned = o.unaligned;
     in_jobs = o.in_jobs;
-    processed = o.processed;
   }
 
   pub row-ordered : (x : Firing) → floor_starts x f ≡ true → is_mild_row x ≡ true → OrderedAt (floor_fired x f)
@@ -251,8 +207,8 @@ module _ (f : ToolFloor) (sound : Sound f) (o : OrderedAt f) where
         map = λ s k. slots x.object x.row.row;
         accessing = λ s k. o;
         location = λ s k. o;
-        transport = λ s k. changed-ordered (substrate_moves 12 x.row.row) (transport_mild x.row.row) x.object f f.modules o (λ k. says_same x.object (substrate_moves 12 x.row.row) (λ t. refl) true (has_process f.modules) (λ t. refl) k f.substrates ∙ o.processed k);
-        processing = λ s k. processing-ordered f f.modules o x.object x.row.row (not_or (x.row.row == 8) k) (row-processed f x.object x.row.row s o.processed);
+        transport = λ s k. changed-ordered (substrate_moves 12 x.row.row) (transport_mild x.row.row) x.object f o;
+        processing = λ s k. processing-ordered f o x.object x.row.row (not_or (x.row.row == 8) k);
         process_job = λ s k. process x.object x.row.row s;
         control_job = λ s k. control x.object x.row.row s;
         move = λ s k. module-ordered f o x.object x.row.row (not-false _ (not-true _ k));
@@ -331,45 +287,28 @@ same_place : (a b : Loc) → Some a ≡ Some b → a ≡ b
 same_place a b e = some_same a b e
 
 module _ (m : ℕ) (f : ToolFloor) (sound : Sound f) (o : OrderedAt f) (c : ToolCommand) (fetched : Bool) (here : module_at m f.modules ≡ Some (Busy c fetched)) where
-  -- what it has open is no Process
-  idle-processed : (behind : Module → Module) → ((sub : List ℕ) → task_processes sub c.task ≡ false) → AreProcessed (change_module m behind f.modules) f.substrates
-  idle-processed behind none =
-      modules-processed f.modules (change_module m behind f.modules) f.substrates
-      (λ sub e. any_changed (processes sub) m behind f.modules (λ x at is. absurd (true≢false (sym is ∙ ap (processes sub) (some_same x (Busy c fetched) (sym at ∙ here)) ∙ none sub))) e) o.processed
+  -- rows 3 and 4 of table 13, where they start
+  ended-ordered : (n r : ℕ) → is_one_of (3 ∷ 4 ∷ []) r ≡ true → (g : ToolFloor) → OrderedAt g → OrderedAt (one_listed (firing 13 n r) g)
+  ended-ordered n r one g at =
+      listed_either OrderedAt (firing 13 n r) g (λ starts. processing-ordered g at n r (one_of_cases (λ (i : ℕ). (i == 8) ≡ false) (3 ∷ 4 ∷ []) r (refl, (refl, tt)) one)) (λ left. at)
 
-  -- it is closed, and what it had open was no Process
-  closed-ordered : (row : ℕ) → ((sub : List ℕ) → task_processes sub c.task ≡ false) → OrderedAt (with_module m (module_behind row) f)
-  closed-ordered row none = record { together = o.together; started = o.started; unaligned = o.unaligned; in_jobs = o.in_jobs; processed = idle-processed (module_behind row) none }
+  -- behind a Process that is done
+  stepped-ordered : (x : Option ToolTask) → OrderedAt (stepped_by x f)
+  stepped-ordered None = o
+  stepped-ordered (Some (task.Pick sub from)) = o
+  stepped-ordered (Some (task.Place sub to)) = o
+  stepped-ordered (Some (task.Align sub)) = o
+  stepped-ordered (Some (task.Process sub recipe)) = of (number_named sub f.places) where
+    by : (n : ℕ) (b : Bool) → Ordered f.places (if b then change_numbered n stepped f.substrates else f.substrates) f.jobs
+    by n true = changed-ordered stepped stepped_mild n f o
+    by n false = o
 
-  -- a Process is closed, and row 3 or 4 of its substrate follows
-  ended-ordered : (row r n : ℕ) (sub recipe : List ℕ) → c.task ≡ task.Process sub recipe → number_named sub f.places ≡ Some n → is_one_of (3 ∷ 4 ∷ []) r ≡ true → OrderedAt (one_listed (firing 13 n r) (with_module m (module_behind row) f))
-  ended-ordered row r n sub recipe q names one = listed_either OrderedAt (firing 13 n r) (with_module m (module_behind row) f) on off where
-    behind : (ss : List Substrate) → ((k : ℕ) → (k ≡ n → ⊥) → substrate_numbered k ss ≡ substrate_numbered k f.substrates) → of_one true (λ (s : Substrate). not (is_in_process s.states.processing)) (substrate_numbered n ss) ≡ true → AreProcessed (change_module m (module_behind row) f.modules) ss
-    behind ss same ended = closed-processed f sound m c fetched here (module_behind row) sub recipe q n names ss same ended o.processed
-
-    ended : (x : Option Substrate) → of_one true (λ (s : Substrate). not (is_in_process s.states.processing)) (option_map (substrate_moves 13 r) x) ≡ true
-    ended None = refl
-    ended (Some s) = finished_by r one s.states.processing
-
-    on : floor_starts (firing 13 n r) (with_module m (module_behind row) f) ≡ true → OrderedAt (floor_fired (firing 13 n r) (with_module m (module_behind row) f))
-    on starts =
-        processing-ordered (with_module m (module_behind row) f) f.modules o n r (one_of_cases (λ (i : ℕ). (i == 8) ≡ false) (3 ∷ 4 ∷ []) r (refl, (refl, tt)) one)
-        (behind (change_numbered n (substrate_moves 13 r) f.substrates) (λ k other. found_else n (substrate_moves 13 r) (λ s. refl) k other f.substrates)
-        (ap (of_one true (λ (s : Substrate). not (is_in_process s.states.processing))) (found_there n (substrate_moves 13 r) (λ s. refl) f.substrates) ∙ ended (substrate_numbered n f.substrates)))
-
-    -- it would start where its substrate is IN PROCESS
-    none : floor_starts (firing 13 n r) (with_module m (module_behind row) f) ≡ false → (x : Option Substrate) → substrate_numbered n f.substrates ≡ x → of_one true (λ (s : Substrate). not (is_in_process s.states.processing)) x ≡ true
-    none left None e = refl
-    none left (Some s) e = by (is_in_process s.states.processing) refl where
-      by : (b : Bool) → is_in_process s.states.processing ≡ b → not b ≡ true
-      by false k = refl
-      by true k = absurd (true≢false (sym (running_starts (with_module m (module_behind row) f) n r s e (running_is s.states.processing k) one) ∙ left))
-
-    off : floor_starts (firing 13 n r) (with_module m (module_behind row) f) ≡ false → OrderedAt (with_module m (module_behind row) f)
-    off left = record { together = o.together; started = o.started; unaligned = o.unaligned; in_jobs = o.in_jobs; processed = behind f.substrates (λ k other. refl) (none left (substrate_numbered n f.substrates) refl) }
+    of : (x : Option ℕ) → Ordered f.places (stepped_numbered x f) f.jobs
+    of None = o
+    of (Some n) = by n (goes_on (substrate_numbered n f.substrates) f)
 
   pick-ordered : (sub : List ℕ) (from : LocId) → c.task ≡ task.Pick sub from → OrderedAt (floor_fired (firing 16 m 5) f)
-  pick-ordered sub from q = record { together = o.together; started = o.started; unaligned = λ n i k at left. o.unaligned n i k (of n i k at (n == t.number) refl) left; in_jobs = o.in_jobs; processed = idle-processed (module_behind 5) (λ x. ap (task_processes x) q) } where
+  pick-ordered sub from q = record { together = o.together; started = o.started; unaligned = λ n i k at left. o.unaligned n i k (of n i k at (n == t.number) refl) left; in_jobs = o.in_jobs } where
     t : Transfers sub (loc_of from) arm f (floor_fired (firing 16 m 5) f)
     t = pick_places m c fetched f here sound sub from q
 
@@ -378,7 +317,7 @@ module _ (m : ℕ) (f : ToolFloor) (sound : Sound f) (o : OrderedAt f) (c : Tool
     of n i k at false e = sym (t.others n (λ same. true≢false (sym ((Decides-eqb n t.number).1 same) ∙ e))) ∙ at
 
   place-ordered : (sub : List ℕ) (to : LocId) → c.task ≡ task.Place sub to → OrderedAt (floor_fired (firing 16 m 5) f)
-  place-ordered sub to q = record { together = o.together; started = o.started; unaligned = λ n i k at left. of n i k at left (n == t.number) refl; in_jobs = o.in_jobs; processed = idle-processed (module_behind 5) (λ x. ap (task_processes x) q) } where
+  place-ordered sub to q = record { together = o.together; started = o.started; unaligned = λ n i k at left. of n i k at left (n == t.number) refl; in_jobs = o.in_jobs } where
     t : Transfers sub arm (loc_of to) f (floor_fired (firing 16 m 5) f)
     t = place_places m c fetched f here sound sub to q
 
@@ -404,17 +343,13 @@ module _ (m : ℕ) (f : ToolFloor) (sound : Sound f) (o : OrderedAt f) (c : Tool
       at_aligner n e =
           (sound.valid.commands.aligns m n (command_of c f.places) (busy_at f m c fetched here) (ap (λ (x : ToolTask). task_of x f.places) q ∙ ap (λ (x : Option ℕ). align (number_or_none x)) e)).stands
 
-      none : (x : List ℕ) → task_processes x c.task ≡ false
-      none x = ap (task_processes x) q
-
       of : (x : Option ℕ) → number_named sub f.places ≡ x → OrderedAt (with_module m (module_behind 6) (record f { substrates = aligned_numbered x f.substrates }))
-      of None e = closed-ordered 6 none
+      of None e = o
       of (Some n) e = record {
         together = o.together;
         started = o.started;
         unaligned = unaligned;
         in_jobs = changed-in_jobs f o.in_jobs n aligned (λ s. refl) (λ s. refl);
-        processed = λ k. says_same n aligned (λ s. refl) true (has_process (change_module m (module_behind 6) f.modules)) (λ s. refl) k f.substrates ∙ idle-processed (module_behind 6) none k;
       } where
         unaligned : UnalignedIn f.places (change_numbered n aligned f.substrates)
         unaligned k i l at left =
@@ -428,24 +363,33 @@ module _ (m : ℕ) (f : ToolFloor) (sound : Sound f) (o : OrderedAt f) (c : Tool
   done_task-ordered (task.Place sub to) q = subst OrderedAt (sym (listed_starts (firing 16 m 5) f (done_starts m f c fetched here (task.Place sub to) q))) (place-ordered sub to q)
   done_task-ordered (task.Align sub) q = subst OrderedAt (sym (listed_starts (firing 16 m 6) f (done_starts m f c fetched here (task.Align sub) q))) (align-ordered sub q)
   done_task-ordered (task.Process sub recipe) q =
-      let w = process_unnamed f sound m 7 c fetched here idle idle_not_busy refl sub recipe q in
-      subst (λ (x : Option ℕ). OrderedAt (listed (firing 16 m 7 ∷ at_done x f) f)) (sym w.1)
-      (subst (λ (g : ToolFloor). OrderedAt (one_listed (firing 13 w.0 (done_processing w.0 f)) g)) (sym (listed_starts (firing 16 m 7) f (done_starts m f c fetched here (task.Process sub recipe) q)))
-      (ended-ordered 7 (done_processing w.0 f) w.0 sub recipe q w.1 (done_one w.0 f)))
+      subst (λ (g : ToolFloor). OrderedAt (listed (at_done (number_named sub f.places) f) g)) (sym (listed_starts (firing 16 m 7) f (done_starts m f c fetched here (task.Process sub recipe) q)))
+      (of (number_named sub f.places))
+    where
+      behind : OrderedAt (floor_fired (firing 16 m 7) f)
+      behind = stepped-ordered (open_task (module_at m f.modules))
+
+      by : (n : ℕ) (b : Bool) → OrderedAt (listed (if b then [] else firing 13 n (done_processing n f) ∷ []) (floor_fired (firing 16 m 7) f))
+      by n true = behind
+      by n false = ended-ordered n (done_processing n f) (done_one n f) (floor_fired (firing 16 m 7) f) behind
+
+      of : (x : Option ℕ) → OrderedAt (listed (at_done x f) (floor_fired (firing 16 m 7) f))
+      of None = behind
+      of (Some n) = by n (goes_on (substrate_numbered n f.substrates) f)
 
   -- those of Failed and of Down
-  closed_task-ordered : (row : ℕ) → one_listed (firing 16 m row) f ≡ with_module m (module_behind row) f → (t : ToolTask) → c.task ≡ t → OrderedAt (listed (at_module row m ++ processed_rows 4 t f) f)
-  closed_task-ordered row closes (task.Pick sub from) q = subst OrderedAt (sym closes) (closed-ordered row (λ x. ap (task_processes x) q))
-  closed_task-ordered row closes (task.Place sub to) q = subst OrderedAt (sym closes) (closed-ordered row (λ x. ap (task_processes x) q))
-  closed_task-ordered row closes (task.Align sub) q = subst OrderedAt (sym closes) (closed-ordered row (λ x. ap (task_processes x) q))
-  closed_task-ordered row closes (task.Process sub recipe) q =
-      let w = process_unnamed f sound m 7 c fetched here idle idle_not_busy refl sub recipe q in
-      subst (λ (x : Option ℕ). OrderedAt (listed (firing 16 m row ∷ at_processed 4 x) f)) (sym w.1)
-      (subst (λ (g : ToolFloor). OrderedAt (one_listed (firing 13 w.0 4) g)) (sym closes) (ended-ordered row 4 w.0 sub recipe q w.1 refl))
+  closed_task-ordered : (row : ℕ) → one_listed (firing 16 m row) f ≡ with_module m (module_behind row) f → (t : ToolTask) → OrderedAt (listed (at_module row m ++ processed_rows 4 t f) f)
+  closed_task-ordered row closes (task.Pick sub from) = subst OrderedAt (sym closes) o
+  closed_task-ordered row closes (task.Place sub to) = subst OrderedAt (sym closes) o
+  closed_task-ordered row closes (task.Align sub) = subst OrderedAt (sym closes) o
+  closed_task-ordered row closes (task.Process sub recipe) = subst (λ (g : ToolFloor). OrderedAt (listed (at_processed 4 (number_named sub f.places)) g)) (sym closes) (of (number_named sub f.places)) where
+    of : (x : Option ℕ) → OrderedAt (listed (at_processed 4 x) (with_module m (module_behind row) f))
+    of None = o
+    of (Some n) = ended-ordered n 4 refl (with_module m (module_behind row) f) o
 
 -- Done of the open command of a module
-pub done-in_order : (m command : ℕ) (f : ToolFloor) → is_open command (module_at m f.modules) ≡ true → InOrder f → InOrder (listed (done_rows m f) f)
-done-in_order m command f open_there o = in_order (listed (done_rows m f) f) (done_sound m command f open_there o.sound) (of (module_at m f.modules) refl open_there) where
+pub done-in_order : (m command : ℕ) (f : ToolFloor) → is_open command (module_at m f.modules) ≡ true → floor_least f ≡ None → InOrder f → InOrder (listed (done_rows m f) f)
+done-in_order m command f open_there rest o = in_order (listed (done_rows m f) f) (done_sound m command f open_there rest o.sound) (of (module_at m f.modules) refl open_there) where
   of : (x : Option Module) → module_at m f.modules ≡ x → is_open command x ≡ true → OrderedAt (listed (done_at m x f) f)
   of None here is = absurd (cc)
   of (Some Idle) here is = absurd (cc)
@@ -460,19 +404,19 @@ failed-in_order m command f open_there o = in_order (listed (closing_rows 8 m f)
   of None here is = absurd (cc)
   of (Some Idle) here is = absurd (cc)
   of (Some Down) here is = absurd (cc)
-  of (Some (Busy c fetched)) here is = closed_task-ordered m f o.sound (to_ordered f o) c fetched here 8 (listed_starts (firing 16 m 8) f (failed_starts m f c fetched here)) c.task refl
+  of (Some (Busy c fetched)) here is = closed_task-ordered m f o.sound (to_ordered f o) c fetched here 8 (listed_starts (firing 16 m 8) f (failed_starts m f c fetched here)) c.task
 
 pub down-in_order : (m : ℕ) (f : ToolFloor) → is_up (module_at m f.modules) ≡ true → InOrder f → InOrder (listed (closing_rows 9 m f) f)
 down-in_order m f up o = in_order (listed (closing_rows 9 m f) f) (down_sound m f up o.sound) (of (module_at m f.modules) refl up) where
   -- it had nothing open
   alone : module_at m f.modules ≡ Some Idle → OrderedAt (listed (firing 16 m 9 ∷ []) f)
-  alone here = listed_either OrderedAt (firing 16 m 9) f (λ starts. with_modules f (to_ordered f o) (change_module m (module_behind 9) f.modules) (λ sub e. any_changed (processes sub) m (module_behind 9) f.modules (λ x at is. absurd (true≢false (sym is ∙ ap (processes sub) (some_same x Idle (sym at ∙ here))))) e)) (λ left. to_ordered f o)
+  alone here = listed_either OrderedAt (firing 16 m 9) f (λ starts. to_ordered f o) (λ left. to_ordered f o)
 
   of : (x : Option Module) → module_at m f.modules ≡ x → is_up x ≡ true → OrderedAt (listed (closing_at 9 m x f) f)
   of None here is = absurd (cc)
   of (Some Idle) here is = alone here
   of (Some Down) here is = absurd (cc)
-  of (Some (Busy c fetched)) here is = closed_task-ordered m f o.sound (to_ordered f o) c fetched here 9 (listed_starts (firing 16 m 9) f (down_starts m f c fetched here)) c.task refl
+  of (Some (Busy c fetched)) here is = closed_task-ordered m f o.sound (to_ordered f o) c fetched here 9 (listed_starts (firing 16 m 9) f (down_starts m f c fetched here)) c.task
 
 -- ---- `lost`
 
@@ -482,9 +426,9 @@ lost-in_order sub f o = in_order (listed (lost_rows sub f) f) (lost_rows_sound s
   was = to_ordered f o
 
   gone : (n : ℕ) → lost_rows sub f ≡ firing 13 n 8 ∷ [] → floor_starts (firing 13 n 8) f ≡ true → OrderedAt (floor_fired (firing 13 n 8) f)
-  gone n is starts = record { together = o.together; started = o.started; unaligned = unaligned; in_jobs = moved.in_jobs; processed = moved.processed } where
-    moved : Ordered f.modules f.places (change_numbered n (substrate_moves 13 8) f.substrates) f.jobs
-    moved = changed-ordered (substrate_moves 13 8) (processing_mild 8) n f f.modules was (row-processed f n 8 starts o.processed)
+  gone n is starts = record { together = o.together; started = o.started; unaligned = unaligned; in_jobs = moved.in_jobs } where
+    moved : Ordered f.places (change_numbered n (substrate_moves 13 8) f.substrates) f.jobs
+    moved = changed-ordered (substrate_moves 13 8) (processing_mild 8) n f was
 
     w : (number_named sub f.places ≡ Some n) × (place_in (floor_fired (firing 13 n 8) f).places n ≡ None) × ((k : ℕ) → (k ≡ n → ⊥) → place_in (floor_fired (firing 13 n 8) f).places k ≡ place_in f.places k)
     w = lost_places f n sub is o.sound
@@ -534,14 +478,9 @@ without-ordered f b (Some carrier) o = record {
   started = o.started;
   unaligned = λ n i k at left. one n i k at left (substrate_numbered n (filter (λ s. not (is_of carrier s)) f.substrates)) refl;
   in_jobs = λ n s found some. o.in_jobs n s (back n s found) some;
-  processed = λ n. kept n (substrate_numbered n (filter (λ s. not (is_of carrier s)) f.substrates)) refl;
 } where
   back : (n : ℕ) (s : Substrate) → substrate_numbered n (filter (λ s. not (is_of carrier s)) f.substrates) ≡ Some s → substrate_numbered n f.substrates ≡ Some s
   back n s found = (found_among_all number_of (λ s. not (is_of carrier s)) n f.substrates s (rising_distinct 0 f.places.given f.substrates b.rising) found).0
-
-  kept : (n : ℕ) (x : Option Substrate) → substrate_numbered n (filter (λ s. not (is_of carrier s)) f.substrates) ≡ x → of_one true (has_process f.modules) x ≡ true
-  kept n None q = refl
-  kept n (Some s) q = sym (ap (of_one true (has_process f.modules)) (back n s q)) ∙ o.processed n
 
   place_back : (n : ℕ) (l : Loc) → place_in (removed_of carrier f.substrates f.places) n ≡ Some l → place_in f.places n ≡ Some l
   place_back n l at = of (find (λ (r : Registered). r.number == n) (filter (stays carrier f.substrates) f.places.held)) refl (sym (ap (λ (rs : List Registered). option_map (λ (r : Registered). loc_of r.at) (find (λ (r : Registered). r.number == n) rs)) (removed_held carrier f.substrates f.places)) ∙ at) where
@@ -573,7 +512,7 @@ removal_left-in_order port f starts left o = in_order (floor_fired (firing 4 por
 pub opening-in_order : (ports chambers : ℕ) (recipes : List Recipe) → ports ≤ most_ports → InOrder (opening ports chambers recipes)
 opening-in_order ports chambers recipes few =
     in_order (opening ports chambers recipes) (opening_sound ports chambers recipes few)
-    (record { together = together_none recipes; started = none-started recipes; unaligned = λ n i k at left. refl; in_jobs = λ n s found some. none_some s found; processed = λ n. refl })
+    (record { together = together_none recipes; started = none-started recipes; unaligned = λ n i k at left. refl; in_jobs = λ n s found some. none_some s found })
 
 pub least-in_order : (x : Firing) (f : ToolFloor) → floor_least f ≡ Some x → InOrder f → InOrder (floor_fired x f)
 least-in_order x f e o = in_order (floor_fired x f) (least_sound x f e o.sound) (least-ordered f o.sound (to_ordered f o) x e)
@@ -585,7 +524,7 @@ row-in_order x f starts common o = in_order (floor_fired x f) (row_sound x f sta
 pub created-in_order : (spec : JobSpec) (f : ToolFloor) → create_fault spec f.jobs.process ≡ None → InOrder f → InOrder (with_jobs (with_process spec f.jobs) f)
 created-in_order spec f free o =
     in_order (with_jobs (with_process spec f.jobs) f) (created_sound f spec o.sound)
-    (record { together = together_created spec f.jobs free o.together; started = created-started f.jobs o.together o.started spec; unaligned = o.unaligned; in_jobs = λ n s found some. let was = o.in_jobs n s found some in (was.0, more s.job f.jobs.process.kept was.0 was.1); processed = o.processed })
+    (record { together = together_created spec f.jobs free o.together; started = created-started f.jobs o.together o.started spec; unaligned = o.unaligned; in_jobs = λ n s found some. let was = o.in_jobs n s found some in (was.0, more s.job f.jobs.process.kept was.0 was.1) })
   where
     more : (k : ℕ) (js : List ProcessJob) (j : ProcessJob) → job_numbered k js ≡ Some j → job_numbered k (js ++ created (f.jobs.process.given + 1) spec ∷ []) ≡ Some j
     more k [] j q = none_some j q
@@ -598,23 +537,17 @@ created-in_order spec f free o =
 pub added-in_order : (name : List ℕ) (named : List (List ℕ)) (auto : Bool) (f : ToolFloor) → control_fault name named f.jobs ≡ None → InOrder f → InOrder (with_jobs (with_control name named auto f.jobs) f)
 added-in_order name named auto f free o =
     in_order (with_jobs (with_control name named auto f.jobs) f) (control_changes_sound f (with_control name named auto f.jobs).control o.sound)
-    (record { together = together_added name named auto f.jobs free o.together; started = added-started f.jobs o.together o.started name named auto free; unaligned = o.unaligned; in_jobs = o.in_jobs; processed = o.processed })
+    (record { together = together_added name named auto f.jobs free o.together; started = added-started f.jobs o.together o.started name named auto free; unaligned = o.unaligned; in_jobs = o.in_jobs })
 
 -- the order of the queue changes
 pub headed-in_order : (name : List ℕ) (f : ToolFloor) → InOrder f → InOrder (with_jobs (record f.jobs { control = headed name f.jobs.control }) f)
 headed-in_order name f o =
     in_order (with_jobs (record f.jobs { control = headed name f.jobs.control }) f) (control_changes_sound f (headed name f.jobs.control) o.sound)
-    (record { together = together_headed name f.jobs o.together; started = headed-started f.jobs o.together o.started name; unaligned = o.unaligned; in_jobs = o.in_jobs; processed = o.processed })
+    (record { together = together_headed name f.jobs o.together; started = headed-started f.jobs o.together o.started name; unaligned = o.unaligned; in_jobs = o.in_jobs })
 
 -- a command is fetched
 pub fetched-in_order : (m : ℕ) (f : ToolFloor) → InOrder f → InOrder (fetched m f)
-fetched-in_order m f o =
-    in_order (fetched m f) (fetched_sound m f o.sound) (with_modules f (to_ordered f o) (change_module m taken f.modules) (λ sub e. any_changed (processes sub) m taken f.modules (λ x _. stays sub x) e))
-  where
-    stays : (sub : List ℕ) (x : Module) → processes sub x ≡ true → processes sub (taken x) ≡ true
-    stays sub (Busy c was) e = e
-    stays sub Idle e = absurd (true≢false (sym e))
-    stays sub Down e = absurd (true≢false (sym e))
+fetched-in_order m f o = in_order (fetched m f) (fetched_sound m f o.sound) (to_ordered f o)
 
 pub cancelled-in_order : (n : ℕ) (c : Carrier) (f : ToolFloor) → carrier_numbered n f.shop.carriers ≡ Some c → floor_starts (firing 10 n 4) f ≡ true → is_any_of_carrier c.name f.jobs ≡ false → InOrder f → InOrder (floor_fired (firing 10 n 4) f)
 cancelled-in_order n c f known starts unnamed o = in_order (floor_fired (firing 10 n 4) f) (cancel_sound f n c known starts unnamed o.sound) (to_ordered f o)

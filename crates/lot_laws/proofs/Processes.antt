@@ -37,7 +37,7 @@ use Rattle.floor_laws.proofs.JobChanges.{map_same}
 use Rattle.floor_laws.proofs.JobFires.{over_before, fired_jobs, stays_alone}
 use Rattle.floor_laws.proofs.JobJoins.{joined_alone}
 use Rattle.floor_laws.proofs.JobEnds.{freed_alone}
-use Rattle.lot_laws.specs.Lot.{owed_to}
+use Rattle.owed_laws.specs.Owed.{owed_to}
 use Rattle.queue_laws.specs.Started.{is_queued, is_left_in, AreStarted}
 use Rattle.queue_laws.specs.Steers.{Steers, disturbs_process}
 use Rattle.queue_laws.proofs.Lists.{gone_back, names_differ}
@@ -46,6 +46,7 @@ use Rattle.queue_laws.proofs.Owners.{owner_is}
 use Rattle.queue_laws.proofs.Steering.{left_owned, process-goes, process-steers, ended-steers}
 use Rattle.lot_laws.specs.Lot.{names_left, first_naming, IsInJob, Waits, Executes, IsAtWork, AtWork}
 use Rattle.lot_laws.proofs.First.{named_on, first_alone, first_fired, first_ended, first_is}
+use Rattle.lot_laws.proofs.Planned.{route_same, first_route}
 use Rattle.lot_laws.proofs.AtWork.{going_whole, at_work_of, executes_by}
 use Rattle.lot_laws.proofs.Standing.{on_base, joins_tell, member_begun}
 use Rattle.lot_laws.proofs.Steering.{found as its_control, state-works, ended_back, ended_on, ended_names, ended-works}
@@ -67,7 +68,7 @@ needing_unfinished : (p : Processing) → is_needing p ≡ true → is_finished 
 needing_unfinished processing.NeedsProcessing e = refl
 needing_unfinished _ e = absurd (true≢false (sym e))
 
-module _ (number : ℕ) (counted : ℕ → Bool) (f : ToolFloor) (h : Sound f) (t : AreTogether f.jobs) (s : AreStarted f.jobs) {before : Jobs} (e : AtWork number counted before f)
+module _ (number : ℕ) (planned : ℕ → List (List ℕ)) (counted : ℕ → Bool) (f : ToolFloor) (h : Sound f) (t : AreTogether f.jobs) (s : AreStarted f.jobs) {before : Jobs} (e : AtWork number planned counted before f)
     (n : ℕ) (j : ProcessJob) (known : job_numbered n f.jobs.process.kept ≡ Some j)
   where
     number_is : (j.number ≡ n) × (0 < n) × (n ≤ f.jobs.process.given)
@@ -105,34 +106,35 @@ module _ (number : ℕ) (counted : ℕ → Bool) (f : ToolFloor) (h : Sound f) (
     fired_member row m x i found q = let was = fired_was n row x.job f.jobs.process.kept i q in in_job_counted m x was.job found was.found
 
     -- one that waits, where it isn't for the job of the row
-    waits_else : (row : ℕ) (x : Substrate) (v : Waits number x f) → (v.at ≡ n → ⊥) → Waits number x (with_jobs (fired_jobs n row f.jobs) f)
-    waits_else row x v other = record { at = v.at; job = v.job; kept = fired_else n row v.at other f.jobs.process.kept ∙ v.kept; left = v.left; first = first_fired number f x n row ∙ v.first; queued = v.queued; joins = v.joins }
+    waits_else : (row : ℕ) (route : List (List ℕ)) (x : Substrate) (v : Waits number route x f) → (v.at ≡ n → ⊥) → Waits number route x (with_jobs (fired_jobs n row f.jobs) f)
+    waits_else row route x v other = record { at = v.at; job = v.job; kept = fired_else n row v.at other f.jobs.process.kept ∙ v.kept; left = v.left; first = first_fired number f x n row ∙ v.first; goes_by = v.goes_by; queued = v.queued; joins = v.joins }
 
     -- ---- rows 1, 4 and 6
 
-    pub state-work : (row : ℕ) → (row == 2) ≡ false → IsAtWork number before (fired_jobs n row f.jobs) → AtWork number counted before (with_jobs (fired_jobs n row f.jobs) f)
+    pub state-work : (row : ℕ) → (row == 2) ≡ false → IsAtWork number before (fired_jobs n row f.jobs) → AtWork number planned counted before (with_jobs (fired_jobs n row f.jobs) f)
     state-work row two steers =
-        subst (λ (ss : List Substrate). AtWork number counted before (record f { substrates = ss; jobs = fired_jobs n row f.jobs })) (map_same f.substrates)
-        (works_on f (λ (x : Substrate). x) stays_alone (fired_jobs n row f.jobs) number counted before h e goes)
+        subst (λ (ss : List Substrate). AtWork number planned counted before (record f { substrates = ss; jobs = fired_jobs n row f.jobs })) (map_same f.substrates)
+        (works_on f (λ (x : Substrate). x) stays_alone (fired_jobs n row f.jobs) number planned counted before h e goes)
       where
-        waits : (x : Substrate) (v : Waits number x f) → (b : Bool) → (v.at == n) ≡ b → Waits number x (with_jobs (fired_jobs n row f.jobs) f)
-        waits x v false q = waits_else row x v (apart_from v.at n q)
-        waits x v true q = record {
+        waits : (route : List (List ℕ)) (x : Substrate) (v : Waits number route x f) → (b : Bool) → (v.at == n) ≡ b → Waits number route x (with_jobs (fired_jobs n row f.jobs) f)
+        waits route x v false q = waits_else row route x v (apart_from v.at n q)
+        waits route x v true q = record {
           at = n;
           job = fires_row row v.job;
           kept = fired_there n row f.jobs.process.kept ∙ ap (option_map (fires_row row)) (subst (λ (m : ℕ). job_numbered m f.jobs.process.kept ≡ Some v.job) ((Decides-eqb v.at n).0 q) v.kept);
           left = v.left;
           first = first_fired number f x n row ∙ v.first;
+          goes_by = v.goes_by;
           queued = stays_queued row v.job.states.state two v.queued;
           joins = v.joins;
         }
 
-        stands : (m : ℕ) (x : Substrate) → Stands f (λ (x : Substrate). x) stays_alone (fired_jobs n row f.jobs) number counted before m x f → Stands f (λ (x : Substrate). x) stays_alone (fired_jobs n row f.jobs) number counted before m x (behind f (λ (x : Substrate). x) stays_alone (fired_jobs n row f.jobs))
+        stands : (m : ℕ) (x : Substrate) → Stands f (λ (x : Substrate). x) stays_alone (fired_jobs n row f.jobs) number planned counted before m x f → Stands f (λ (x : Substrate). x) stays_alone (fired_jobs n row f.jobs) number planned counted before m x (behind f (λ (x : Substrate). x) stays_alone (fired_jobs n row f.jobs))
         stands m x (inl done) = inl done
-        stands m x (inr (inl its)) = let on = named_on n row x.job f.jobs.process.kept its.0 its.1 in inr (inl (on.0, on.1, first_fired number f x n row ∙ its.2 ∙ ap (λ (name : List ℕ). Some name) (sym on.2)))
-        stands m x (inr (inr v)) = let u = waits x v (v.at == n) refl in inr (inr (record { at = u.at; job = u.job; kept = u.kept; left = u.left; first = u.first; queued = u.queued; joins = u.joins }))
+        stands m x (inr (inl its)) = let on = named_on n row x.job f.jobs.process.kept its.0 its.1 in inr (inl (on.0, on.1, first_fired number f x n row ∙ its.2 ∙ ap (λ (name : List ℕ). Some name) (sym on.2), route_same f.jobs.process on.0 its.0 on.3 ∙ its.3))
+        stands m x (inr (inr v)) = let u = waits (planned m) x v (v.at == n) refl in inr (inr (record { at = u.at; job = u.job; kept = u.kept; left = u.left; first = u.first; goes_by = u.goes_by; queued = u.queued; joins = u.joins }))
 
-        goes : GoesOn f (λ (x : Substrate). x) stays_alone (fired_jobs n row f.jobs) number counted before
+        goes : GoesOn f (λ (x : Substrate). x) stays_alone (fired_jobs n row f.jobs) number planned counted before
         goes = record {
           steers = steers;
           left = λ k i q left. fired_left row k i q left;
@@ -153,8 +155,8 @@ module _ (number : ℕ) (counted : ℕ → Bool) (f : ToolFloor) (h : Sound f) (
     abbrev pub IsFirstLeft : Type 0
     IsFirstLeft = is_first j.id (names_left (control_numbered number f.jobs.control.jobs)) ≡ true
 
-    pub joined-work : is_left_in number j.id f.jobs ≡ true → IsFirstLeft → IsAtWork number before (fired_jobs n 2 f.jobs) → AtWork number counted before (with_jobs (fired_jobs n 2 f.jobs) (with_members j f))
-    joined-work left_in head steers = works_on f (joined j f.shop) (joined_alone f j) (fired_jobs n 2 f.jobs) number counted before h e goes where
+    pub joined-work : is_left_in number j.id f.jobs ≡ true → IsFirstLeft → IsAtWork number before (fired_jobs n 2 f.jobs) → AtWork number planned counted before (with_jobs (fired_jobs n 2 f.jobs) (with_members j f))
+    joined-work left_in head steers = works_on f (joined j f.shop) (joined_alone f j) (fired_jobs n 2 f.jobs) number planned counted before h e goes where
       -- the first that names a slot is as it was
       alone_on : (x : Substrate) → first_naming number (behind f (joined j f.shop) (joined_alone f j) (fired_jobs n 2 f.jobs)) (joined j f.shop x) ≡ first_naming number (with_jobs (fired_jobs n 2 f.jobs) f) x
       alone_on x = first_alone number (behind f (joined j f.shop) (joined_alone f j) (fired_jobs n 2 f.jobs)) x (joined j f.shop x) (ap (λ (y : Substrate). y.carrier) (joined_alone f j x)) (ap (λ (y : Substrate). y.slot) (joined_alone f j x))
@@ -162,24 +164,27 @@ module _ (number : ℕ) (counted : ℕ → Bool) (f : ToolFloor) (h : Sound f) (
       first_on : (x : Substrate) → first_naming number (behind f (joined j f.shop) (joined_alone f j) (fired_jobs n 2 f.jobs)) (joined j f.shop x) ≡ first_naming number f x
       first_on x = alone_on x ∙ first_fired number f x n 2
 
-      then_in : (x : Substrate) → can_join j f.shop x ≡ true → IsInJob number (joined j f.shop x) (behind f (joined j f.shop) (joined_alone f j) (fired_jobs n 2 f.jobs))
-      then_in x q = (
+      then_in : (route : List (List ℕ)) (x : Substrate) → IsInJob number route x f ⊎ Waits number route x f → can_join j f.shop x ≡ true → IsInJob number route (joined j f.shop x) (behind f (joined j f.shop) (joined_alone f j) (fired_jobs n 2 f.jobs))
+      then_in route x how q = (
         fires_row 2 j,
         ap (λ (k : ℕ). job_numbered k (change_numbered n (fires_row 2) f.jobs.process.kept)) (joined_job x q) ∙ fired_there n 2 f.jobs.process.kept ∙ ap (option_map (fires_row 2)) known,
-        first_on x ∙ first_is number f x n j t.process.apart known head (joins_tell j f x q).named,
-      )
+        first_on x ∙ first,
+        first_route number f t route x how n j known first,
+      ) where
+        first : first_naming number f x ≡ Some j.id
+        first = first_is number f x n j t.process.apart known head (joins_tell j f x q).named
 
-      stands : (m : ℕ) (x : Substrate) → substrate_numbered m f.substrates ≡ Some x → Stands f (joined j f.shop) (joined_alone f j) (fired_jobs n 2 f.jobs) number counted before m x f → (b : Bool) → can_join j f.shop x ≡ b
-          → Stands f (joined j f.shop) (joined_alone f j) (fired_jobs n 2 f.jobs) number counted before m (joined j f.shop x) (behind f (joined j f.shop) (joined_alone f j) (fired_jobs n 2 f.jobs))
+      stands : (m : ℕ) (x : Substrate) → substrate_numbered m f.substrates ≡ Some x → Stands f (joined j f.shop) (joined_alone f j) (fired_jobs n 2 f.jobs) number planned counted before m x f → (b : Bool) → can_join j f.shop x ≡ b
+          → Stands f (joined j f.shop) (joined_alone f j) (fired_jobs n 2 f.jobs) number planned counted before m (joined j f.shop x) (behind f (joined j f.shop) (joined_alone f j) (fired_jobs n 2 f.jobs))
       stands m x found (inl done) b q = inl done
-      stands m x found (inr how) true q = inr (inl (then_in x q))
+      stands m x found (inr how) true q = inr (inl (then_in (planned m) x how q))
       stands m x found (inr (inl its)) false q =
           let on = named_on n 2 x.job f.jobs.process.kept its.0 its.1 in
-          inr (inl (on.0, ap (λ (y : Substrate). job_of y (fired_jobs n 2 f.jobs)) (joined_same x q) ∙ on.1, first_on x ∙ its.2 ∙ ap (λ (name : List ℕ). Some name) (sym on.2)))
+          inr (inl (on.0, ap (λ (y : Substrate). job_of y (fired_jobs n 2 f.jobs)) (joined_same x q) ∙ on.1, first_on x ∙ its.2 ∙ ap (λ (name : List ℕ). Some name) (sym on.2), route_same f.jobs.process on.0 its.0 on.3 ∙ its.3))
       stands m x found (inr (inr v)) false q =
           let other : v.at ≡ n → ⊥ = λ same. true≢false (sym v.joins ∙ ap (λ (i : ProcessJob). can_join i f.shop x) (that v.at v.job v.kept same) ∙ q) in
-          let u = waits_else 2 x v other in
-          inr (inr (record { at = u.at; job = u.job; kept = u.kept; left = u.left; first = alone_on x ∙ u.first; queued = u.queued; joins = ap (can_join u.job f.shop) (joined_same x q) ∙ u.joins }))
+          let u = waits_else 2 (planned m) x v other in
+          inr (inr (record { at = u.at; job = u.job; kept = u.kept; left = u.left; first = alone_on x ∙ u.first; goes_by = u.goes_by; queued = u.queued; joins = ap (can_join u.job f.shop) (joined_same x q) ∙ u.joins }))
 
       members : (m : ℕ) (x : Substrate) (i : ProcessJob) → substrate_numbered m f.substrates ≡ Some x → job_of (joined j f.shop x) (fired_jobs n 2 f.jobs) ≡ Some i → (b : Bool) → can_join j f.shop x ≡ b → counted m ≡ true
       members m x i found its true q = e.all m n x j found known left_in q
@@ -190,7 +195,7 @@ module _ (number : ℕ) (counted : ℕ → Bool) (f : ToolFloor) (h : Sound f) (
       joins m k x i found q left can true g = e.all m n x j found known left_in g
       joins m k x i found q left can false g = fired_joins 2 m k x i found q left (sym (ap (can_join i f.shop) (joined_same x g)) ∙ can)
 
-      goes : GoesOn f (joined j f.shop) (joined_alone f j) (fired_jobs n 2 f.jobs) number counted before
+      goes : GoesOn f (joined j f.shop) (joined_alone f j) (fired_jobs n 2 f.jobs) number planned counted before
       goes = record {
         steers = steers;
         left = λ k i q left. fired_left 2 k i q left;
@@ -236,16 +241,17 @@ module _ (number : ℕ) (counted : ℕ → Bool) (f : ToolFloor) (h : Sound f) (
             ∙ first_ended number f x n j known (names_left (control_numbered number (ended n f.jobs).control.jobs)) (ended_names number before f.jobs t s e.steers n j known) i.id
             (names_differ k n f.jobs.process.kept i j t.process.apart its known (differs k n other)) is
 
-        stands : (m : ℕ) (x : Substrate) → substrate_numbered m f.substrates ≡ Some x → Stands f (freed n) (freed_alone n) (ended n f.jobs) number counted before m x f
-            → Stands f (freed n) (freed_alone n) (ended n f.jobs) number counted before m (freed n x) (behind f (freed n) (freed_alone n) (ended n f.jobs))
+        stands : (m : ℕ) (x : Substrate) → substrate_numbered m f.substrates ≡ Some x → Stands f (freed n) (freed_alone n) (ended n f.jobs) number planned counted before m x f
+            → Stands f (freed n) (freed_alone n) (ended n f.jobs) number planned counted before m (freed n x) (behind f (freed n) (freed_alone n) (ended n f.jobs))
         stands m x found (inl is) = inl is
         stands m x found (inr (inl its)) = of (x.job == n) refl where
-          of : (b : Bool) → (x.job == n) ≡ b → Stands f (freed n) (freed_alone n) (ended n f.jobs) number counted before m (freed n x) (behind f (freed n) (freed_alone n) (ended n f.jobs))
+          of : (b : Bool) → (x.job == n) ≡ b → Stands f (freed n) (freed_alone n) (ended n f.jobs) number planned counted before m (freed n x) (behind f (freed n) (freed_alone n) (ended n f.jobs))
           of true q = inl (done m x found ((Decides-eqb x.job n).0 q))
           of false q = inr (inl (
             its.0,
             ap (λ (y : Substrate). job_numbered y.job (without_numbered n f.jobs.process.kept)) (freed_same x q) ∙ without_else n x.job (apart_from x.job n q) f.jobs.process.kept ∙ its.1,
             first_on x x.job its.0 its.1 (apart_from x.job n q) its.2,
+            its.3,
           ))
         stands m x found (inr (inr v)) =
             let other : v.at ≡ n → ⊥ = λ same. let one = that v.at v.job v.kept same in apart (subst (λ (i : ProcessJob). is_queued i.states.state ≡ true) one v.queued) (subst (λ (i : ProcessJob). is_left_in number i.id f.jobs ≡ true) one v.left) in
@@ -255,6 +261,7 @@ module _ (number : ℕ) (counted : ℕ → Bool) (f : ToolFloor) (h : Sound f) (
               kept = without_else n v.at other f.jobs.process.kept ∙ v.kept;
               left = ended_on number before f.jobs t s e.steers n j v.job.id known (names_differ v.at n f.jobs.process.kept v.job j t.process.apart v.kept known (differs v.at n other)) v.left;
               first = first_on x v.at v.job v.kept other v.first;
+              goes_by = v.goes_by;
               queued = v.queued;
               joins = ap (can_join v.job f.shop) (freed_same x (free_apart v.job x v.joins)) ∙ v.joins;
             }))
@@ -271,7 +278,7 @@ module _ (number : ℕ) (counted : ℕ → Bool) (f : ToolFloor) (h : Sound f) (
             let back = gone_back n k 0 f.jobs.process.given f.jobs.process.kept i h.base.jobs.numbered q in
             e.all m k x i found back.0 (ended_back number before f.jobs t s e.steers n i.id left) (sym (ap (can_join i f.shop) (freed_same x g)) ∙ can)
 
-        goes : GoesOn f (freed n) (freed_alone n) (ended n f.jobs) number counted before
+        goes : GoesOn f (freed n) (freed_alone n) (ended n f.jobs) number planned counted before
         goes = record {
           steers = ended-works number before f.jobs t s e.steers n;
           left = λ k i q left. let back = gone_back n k 0 f.jobs.process.given f.jobs.process.kept i h.base.jobs.numbered q in (k, i, back.0, ended_back number before f.jobs t s e.steers n i.id left, refl);
@@ -280,8 +287,8 @@ module _ (number : ℕ) (counted : ℕ → Bool) (f : ToolFloor) (h : Sound f) (
           joins = λ m k x i found q left can. joins m k x i found q left can (x.job == n) refl;
         }
 
-        pub ended-work : AtWork number counted before (with_jobs (ended n f.jobs) (without_members j.number f))
-        ended-work = subst (λ (k : ℕ). AtWork number counted before (with_jobs (ended n f.jobs) (without_members k f))) (sym number_is.0) (works_on f (freed n) (freed_alone n) (ended n f.jobs) number counted before h e goes)
+        pub ended-work : AtWork number planned counted before (with_jobs (ended n f.jobs) (without_members j.number f))
+        ended-work = subst (λ (k : ℕ). AtWork number planned counted before (with_jobs (ended n f.jobs) (without_members k f))) (sym number_is.0) (works_on f (freed n) (freed_alone n) (ended n f.jobs) number planned counted before h e goes)
 
 -- ---- what the floor is behind the rows
 
@@ -319,11 +326,11 @@ complete_not_queued state.Aborting p q = true≢false (sym q)
 
 -- ---- while it executes
 
-module _ (number : ℕ) (counted : ℕ → Bool) (f : ToolFloor) (h : Sound f) (t : AreTogether f.jobs) (s : AreStarted f.jobs) (e : Executes number counted f)
+module _ (number : ℕ) (planned : ℕ → List (List ℕ)) (counted : ℕ → Bool) (f : ToolFloor) (h : Sound f) (t : AreTogether f.jobs) (s : AreStarted f.jobs) (e : Executes number planned counted f)
     (n : ℕ) (j : ProcessJob) (known : job_numbered n f.jobs.process.kept ≡ Some j)
   where
-    at_work : AtWork number counted f.jobs f
-    at_work = at_work_of number counted f e
+    at_work : AtWork number planned counted f.jobs f
+    at_work = at_work_of number planned counted f e
 
     -- where it steers behind a row that changes the state, it is at work there
     works_so : (row : ℕ) → Steers number (fired_jobs n row f.jobs) → IsAtWork number f.jobs (fired_jobs n row f.jobs)
@@ -334,12 +341,12 @@ module _ (number : ℕ) (counted : ℕ → Bool) (f : ToolFloor) (h : Sound f) (
         found_then : job_numbered n (fired_jobs n row f.jobs).process.kept ≡ Some (fires_row row j)
         found_then = fired_there n row f.jobs.process.kept ∙ ap (option_map (fires_row row)) known
 
-    state-executes : (row : ℕ) → (row == 2) ≡ false → Steers number (fired_jobs n row f.jobs) → Executes number counted (with_jobs (fired_jobs n row f.jobs) f)
-    state-executes row two v = executes_by number counted (with_jobs (fired_jobs n row f.jobs) f) (state-work number counted f h t s at_work n j known row two (works_so row v)) v
+    state-executes : (row : ℕ) → (row == 2) ≡ false → Steers number (fired_jobs n row f.jobs) → Executes number planned counted (with_jobs (fired_jobs n row f.jobs) f)
+    state-executes row two v = executes_by number planned counted (with_jobs (fired_jobs n row f.jobs) f) (state-work number planned counted f h t s at_work n j known row two (works_so row v)) v
 
     joined-executes : is_left_in number j.id f.jobs ≡ true → is_first j.id (names_left (control_numbered number f.jobs.control.jobs)) ≡ true → Steers number (fired_jobs n 2 f.jobs)
-        → Executes number counted (with_jobs (fired_jobs n 2 f.jobs) (with_members j f))
-    joined-executes left head v = executes_by number counted (with_jobs (fired_jobs n 2 f.jobs) (with_members j f)) (joined-work number counted f h t s at_work n j known left head (works_so 2 v)) v
+        → Executes number planned counted (with_jobs (fired_jobs n 2 f.jobs) (with_members j f))
+    joined-executes left head v = executes_by number planned counted (with_jobs (fired_jobs n 2 f.jobs) (with_members j f)) (joined-work number planned counted f h t s at_work n j known left head (works_so 2 v)) v
 
     -- what row 2 starts at is the first that is left in its control job
     first_left : is_left_in number j.id f.jobs ≡ true → process_starts 2 (Some j) (sight j f) f.jobs ≡ true → is_first j.id (names_left (control_numbered number f.jobs.control.jobs)) ≡ true
@@ -352,13 +359,13 @@ module _ (number : ℕ) (counted : ℕ → Bool) (f : ToolFloor) (h : Sound f) (
         ∙ (and_parts ((state_number c.job.states.state == 3) && not (is_ending c.job.states.ending)) (is_first j.id c.job.left) own).1
 
     ended-executes : ((k : ℕ) (x : Substrate) → substrate_numbered k f.substrates ≡ Some x → x.job ≡ n → is_done k (picture f) ≡ true)
-        → (is_queued j.states.state ≡ true → is_left_in number j.id f.jobs ≡ true → ⊥) → Executes number counted (with_jobs (ended n f.jobs) (without_members j.number f))
+        → (is_queued j.states.state ≡ true → is_left_in number j.id f.jobs ≡ true → ⊥) → Executes number planned counted (with_jobs (ended n f.jobs) (without_members j.number f))
     ended-executes done apart =
-        executes_by number counted (with_jobs (ended n f.jobs) (without_members j.number f)) (ended-work number counted f h t s at_work n j known done apart) (ended-steers number f.jobs t s e.steers n)
+        executes_by number planned counted (with_jobs (ended n f.jobs) (without_members j.number f)) (ended-work number planned counted f h t s at_work n j known done apart) (ended-steers number f.jobs t s e.steers n)
 
     -- a row of the process job leaves it as it is, and as much is owed
     abbrev Keeps : ℕ → Type 0
-    Keeps r = Executes number counted (floor_fired (firing 14 n r) f) × (owed_to counted (picture (floor_fired (firing 14 n r) f)) ≡ owed_to counted (picture f))
+    Keeps r = Executes number planned counted (floor_fired (firing 14 n r) f) × (owed_to planned counted (picture (floor_fired (firing 14 n r) f)) ≡ owed_to planned counted (picture f))
 
     abbrev Starts : ℕ → Type 0
     Starts r = process_starts r (Some j) (sight j f) f.jobs ≡ true
@@ -367,7 +374,7 @@ module _ (number : ℕ) (counted : ℕ → Bool) (f : ToolFloor) (h : Sound f) (
     Calm r = disturbs_process number j.id r f.jobs ≡ false
 
     pub process-executes : (row : ℕ) → floor_starts (firing 14 n row) f ≡ true → disturbs_process number j.id row f.jobs ≡ false
-        → Executes number counted (floor_fired (firing 14 n row) f) × (owed_to counted (picture (floor_fired (firing 14 n row) f)) ≡ owed_to counted (picture f))
+        → Executes number planned counted (floor_fired (firing 14 n row) f) × (owed_to planned counted (picture (floor_fired (firing 14 n row) f)) ≡ owed_to planned counted (picture f))
     process-executes row starts calm =
         process-goes number f.jobs t s e.steers (λ (r : ℕ). Starts r → Calm r → Keeps r) row n (sight j f) j known its calm
         (λ left. (
@@ -385,19 +392,19 @@ module _ (number : ℕ) (counted : ℕ → Bool) (f : ToolFloor) (h : Sound f) (
 
         joins : is_left_in number j.id f.jobs ≡ true → Starts 2 → Calm 2 → Keeps 2
         joins left st c =
-            subst (λ (g : ToolFloor). Executes number counted g × (owed_to counted (picture g) ≡ owed_to counted (picture f))) (sym (two_is f n j known))
-            (joined-executes left (first_left left st) (steers 2 st c), behind_owed f (joined j f.shop) (joined_alone f j) (fired_jobs n 2 f.jobs) counted)
+            subst (λ (g : ToolFloor). Executes number planned counted g × (owed_to planned counted (picture g) ≡ owed_to planned counted (picture f))) (sym (two_is f n j known))
+            (joined-executes left (first_left left st) (steers 2 st c), behind_owed f (joined j f.shop) (joined_alone f j) (fired_jobs n 2 f.jobs) planned counted)
 
-        owed_ended : owed_to counted (picture (with_jobs (ended n f.jobs) (without_members j.number f))) ≡ owed_to counted (picture f)
-        owed_ended = behind_owed f (freed j.number) (freed_alone j.number) (ended n f.jobs) counted
+        owed_ended : owed_to planned counted (picture (with_jobs (ended n f.jobs) (without_members j.number f))) ≡ owed_to planned counted (picture f)
+        owed_ended = behind_owed f (freed j.number) (freed_alone j.number) (ended n f.jobs) planned counted
 
         ends : is_left_in number j.id f.jobs ≡ true → Starts 7 → Calm 7 → Keeps 7
         ends left st c =
             let complete = complete_tells j.states.state (and_parts (is_among job_number (state.Complete ∷ []) j.states.state) true st).0 in
-            subst (λ (g : ToolFloor). Executes number counted g × (owed_to counted (picture g) ≡ owed_to counted (picture f))) (sym (seven_is f n j known))
+            subst (λ (g : ToolFloor). Executes number planned counted g × (owed_to planned counted (picture g) ≡ owed_to planned counted (picture f))) (sym (seven_is f n j known))
             (ended-executes (complete_done f n j known h complete) (λ q l. complete_not_queued j.states.state complete q), owed_ended)
 
         fifteen : is_left_in number j.id f.jobs ≡ false → is_queued j.states.state ≡ true → Starts 15 → Calm 15 → Keeps 15
         fifteen out queued st c =
-            subst (λ (g : ToolFloor). Executes number counted g × (owed_to counted (picture g) ≡ owed_to counted (picture f))) (sym (fifteen_is f n j known))
+            subst (λ (g : ToolFloor). Executes number planned counted g × (owed_to planned counted (picture g) ≡ owed_to planned counted (picture f))) (sym (fifteen_is f n j known))
             (ended-executes (queued_done f n j known h queued) (λ q l. true≢false (sym l ∙ out)), owed_ended)

@@ -1,5 +1,5 @@
 -- A control job executes on where the substrates of a carrier are registered: no process job that is left in it names the carrier.
-use Rattle.std.proofs.Common.{◌≡◌, ◌≤◌, ◌<◌, ℕ, zero, suc, ◌+◌, ◌==◌, Bool, true, false, if◌then◌else◌, not, ◌&&◌, List, [], ◌∷◌, ◌++◌, length, map, Option, Some, None, IsSomeAnd, refl, sym, ◌∙◌, ap, subst, ◌⊎◌, inl, inr, arith}
+use Rattle.std.proofs.Common.{◌≡◌, ◌≤◌, ◌<◌, ℕ, zero, suc, ◌+◌, ◌==◌, Bool, true, false, if◌then◌else◌, not, ◌&&◌, List, [], ◌∷◌, ◌++◌, length, Option, Some, None, IsSomeAnd, refl, sym, ◌∙◌, ap, subst, ◌⊎◌, inl, inr, arith}
 use Rattle.std.proofs.lemmas.Bool.{true≢false, and_parts}
 use Rattle.std.proofs.lemmas.Bool.Decides.{Decides-eqb}
 use Rattle.std.proofs.lemmas.Slice.Eq.{bytes_eq-Decides}
@@ -52,11 +52,10 @@ use Rattle.floor_laws.proofs.RegSlots.{Filling, can, may, slot_agrees}
 use Rattle.floor_laws.proofs.RegFilled.{slots_filled}
 use Rattle.floor_laws.proofs.RegVerified.{jobs_stay, found_changed, Becomes, becomes}
 use Rattle.floor_laws.proofs.ShopAccess.{map_access}
-use Rattle.lot_laws.specs.Lot.{one_step, owed_to}
+use Rattle.owed_laws.specs.Owed.{owed_to}
 use Rattle.owed_laws.specs.Undisturbed.{Undisturbed}
 use Rattle.owed_laws.proofs.Carrying.{registered-stays}
-use Rattle.owed_laws.proofs.Agreeing.{agree-undisturbed}
-use Rattle.lot_laws.proofs.Owing.{agree-owed}
+use Rattle.owed_laws.proofs.Agreeing.{agree-undisturbed, agree-owed}
 use Rattle.queue_laws.specs.Started.{is_left_in}
 use Rattle.lot_laws.specs.Lot.{IsInJob, Waits, Executes, AtWork}
 use Rattle.lot_laws.proofs.Naming.{slot_names_carrier}
@@ -78,7 +77,7 @@ found_either k (s ∷ ss) x y e = of (s.number == k) e (found_either k ss x y) w
   of false f later = later f
 
 -- the carrier whose substrates are registered, as it is before its map is VERIFIED, and then; its port
-module _ (number : ℕ) (counted : ℕ → Bool) (before : Jobs) (s : Floor) (valid : IsFloor s) (c d : Carrier) (port : PortNo) (found : carrier_numbered c.number s.carriers ≡ Some d) (present : d.present ≡ true) (is_read : is_map_verified d.states.map ≡ true) (at : d.port ≡ Some port) (named : d.name ≡ c.name) where
+module _ (number : ℕ) (planned : ℕ → List (List ℕ)) (counted : ℕ → Bool) (before : Jobs) (s : Floor) (valid : IsFloor s) (c d : Carrier) (port : PortNo) (found : carrier_numbered c.number s.carriers ≡ Some d) (present : d.present ≡ true) (is_read : is_map_verified d.states.map ≡ true) (at : d.port ≡ Some port) (named : d.name ≡ c.name) where
   abbrev Fills : ℕ → ToolFloor → Type 0
   Fills k f = Filling s valid c d port found present is_read at named k f
 
@@ -87,14 +86,14 @@ module _ (number : ℕ) (counted : ℕ → Bool) (before : Jobs) (s : Floor) (va
   Unnamed f = (k : ℕ) (j : ProcessJob) → job_numbered k f.jobs.process.kept ≡ Some j → is_left_in number j.id f.jobs ≡ true → names_carrier c.name j ≡ true → ⊥
 
   abbrev Keeps : ToolFloor → ToolFloor → Type 0
-  Keeps f g = AtWork number counted before (with_shop s g) × (owed_to counted (picture (with_shop s g)) ≡ owed_to counted (picture (with_shop s f)))
+  Keeps f g = AtWork number planned counted before (with_shop s g) × (owed_to planned counted (picture (with_shop s g)) ≡ owed_to planned counted (picture (with_shop s f)))
 
   -- ---- one
 
-  module _ (slot : SlotNo) (f : ToolFloor) (first : 1 ≤ slot.0) (last : slot.0 ≤ 25) (fill : Filling s valid c d port found present is_read at named slot.0 f) (e : AtWork number counted before (with_shop s f)) (unnamed : Unnamed f) where
+  module _ (slot : SlotNo) (f : ToolFloor) (first : 1 ≤ slot.0) (last : slot.0 ≤ 25) (fill : Filling s valid c d port found present is_read at named slot.0 f) (e : AtWork number planned counted before (with_shop s f)) (unnamed : Unnamed f) where
     -- it stands undisturbed before
     u : Undisturbed counted (picture (with_shop s f))
-    u = work-undisturbed number counted (with_shop s f) (record { shop = valid; carried = fill.carried; members = fill.members }) e
+    u = work-undisturbed number planned counted (with_shop s f) (record { shop = valid; carried = fill.carried; members = fill.members }) e
 
     abbrev new : Substrate
     new = first_substrate (f.places.given + 1) (name_in_slot c.name slot.0) c.number (Slot port slot)
@@ -118,8 +117,8 @@ module _ (number : ℕ) (counted : ℕ → Bool) (before : Jobs) (s : Floor) (va
         ∙ ap (λ (l : Option Loc). law.is_finished ((picture (with_shop s f)).processing k) && not (law.is_outside l)) (agrees.place_of k ∙ set_else (f.places.given + 1) k (Some (law.slot port.0 slot.0)) (picture (with_shop s f)).place_of apart)
         ∙ done
 
-    pub one-works : AtWork number counted before (with_shop s (record f { places = registered (name_in_slot c.name slot.0) (Slot port slot) f.places; substrates = f.substrates ++ first_substrate (f.places.given + 1) (name_in_slot c.name slot.0) c.number (Slot port slot) ∷ [] }))
-        × (owed_to counted (picture (with_shop s (record f { places = registered (name_in_slot c.name slot.0) (Slot port slot) f.places; substrates = f.substrates ++ first_substrate (f.places.given + 1) (name_in_slot c.name slot.0) c.number (Slot port slot) ∷ [] }))) ≡ owed_to counted (picture (with_shop s f)))
+    pub one-works : AtWork number planned counted before (with_shop s (record f { places = registered (name_in_slot c.name slot.0) (Slot port slot) f.places; substrates = f.substrates ++ first_substrate (f.places.given + 1) (name_in_slot c.name slot.0) c.number (Slot port slot) ∷ [] }))
+        × (owed_to planned counted (picture (with_shop s (record f { places = registered (name_in_slot c.name slot.0) (Slot port slot) f.places; substrates = f.substrates ++ first_substrate (f.places.given + 1) (name_in_slot c.name slot.0) c.number (Slot port slot) ∷ [] }))) ≡ owed_to planned counted (picture (with_shop s f)))
     one-works = (
       record {
         steers = e.steers;
@@ -129,18 +128,18 @@ module _ (number : ℕ) (counted : ℕ → Bool) (before : Jobs) (s : Floor) (va
         all = λ k i y j there kept left can. takes k i y j kept left can (found_either k f.substrates new y there);
         substrates = (agree-undisturbed (registered_by_numbers c.number port.0 slot.0 (picture (with_shop s f))) (picture (with_shop s behind)) agrees counted (registered-keeps (picture (with_shop s f)) fill.by_numbers c.number port.0 slot.0 (may s valid c d port found present is_read at named slot f first last fill)) stays.0).substrates;
       },
-      agree-owed (registered_by_numbers c.number port.0 slot.0 (picture (with_shop s f))) (picture (with_shop s behind)) agrees counted ∙ stays.1,
+      agree-owed (registered_by_numbers c.number port.0 slot.0 (picture (with_shop s f))) (picture (with_shop s behind)) agrees planned counted ∙ stays.1,
     ) where
-      stays : Undisturbed counted (registered_by_numbers c.number port.0 slot.0 (picture (with_shop s f))) × (owed_to counted (registered_by_numbers c.number port.0 slot.0 (picture (with_shop s f))) ≡ owed_to counted (picture (with_shop s f)))
-      stays = registered-stays (one_step (picture (with_shop s f))) counted (picture (with_shop s f)) fill.by_numbers u c.number port.0 slot.0
+      stays : Undisturbed counted (registered_by_numbers c.number port.0 slot.0 (picture (with_shop s f))) × (owed_to planned counted (registered_by_numbers c.number port.0 slot.0 (picture (with_shop s f))) ≡ owed_to planned counted (picture (with_shop s f)))
+      stays = registered-stays planned counted (picture (with_shop s f)) fill.by_numbers u c.number port.0 slot.0
 
-      on : (k : ℕ) (y : Substrate) → substrate_numbered k f.substrates ≡ Some y → substrate_numbered k (f.substrates ++ new ∷ []) ≡ Some y → counted k ≡ true → (is_done k (picture (with_shop s f)) ≡ true) ⊎ (IsInJob number y (with_shop s f) ⊎ Waits number y (with_shop s f))
-          → (is_done k (picture (with_shop s behind)) ≡ true) ⊎ (IsInJob number y (with_shop s behind) ⊎ Waits number y (with_shop s behind))
+      on : (k : ℕ) (y : Substrate) → substrate_numbered k f.substrates ≡ Some y → substrate_numbered k (f.substrates ++ new ∷ []) ≡ Some y → counted k ≡ true → (is_done k (picture (with_shop s f)) ≡ true) ⊎ (IsInJob number (planned k) y (with_shop s f) ⊎ Waits number (planned k) y (with_shop s f))
+          → (is_done k (picture (with_shop s behind)) ≡ true) ⊎ (IsInJob number (planned k) y (with_shop s behind) ⊎ Waits number (planned k) y (with_shop s behind))
       on k y was there is (inl done) = inl (done_on k y was there (other k is) done)
       on k y was there is (inr (inl its)) = inr (inl its)
-      on k y was there is (inr (inr w)) = inr (inr (record { at = w.at; job = w.job; kept = w.kept; left = w.left; first = w.first; queued = w.queued; joins = w.joins }))
+      on k y was there is (inr (inr w)) = inr (inr (record { at = w.at; job = w.job; kept = w.kept; left = w.left; first = w.first; goes_by = w.goes_by; queued = w.queued; joins = w.joins }))
 
-      stands : (k : ℕ) (y : Substrate) → substrate_numbered k (f.substrates ++ new ∷ []) ≡ Some y → counted k ≡ true → (substrate_numbered k f.substrates ≡ Some y) ⊎ ((new.number ≡ k) × (y ≡ new)) → (is_done k (picture (with_shop s behind)) ≡ true) ⊎ (IsInJob number y (with_shop s behind) ⊎ Waits number y (with_shop s behind))
+      stands : (k : ℕ) (y : Substrate) → substrate_numbered k (f.substrates ++ new ∷ []) ≡ Some y → counted k ≡ true → (substrate_numbered k f.substrates ≡ Some y) ⊎ ((new.number ≡ k) × (y ≡ new)) → (is_done k (picture (with_shop s behind)) ≡ true) ⊎ (IsInJob number (planned k) y (with_shop s behind) ⊎ Waits number (planned k) y (with_shop s behind))
       stands k y there is (inl was) = on k y was there is (e.stands k y was is)
       stands k y there is (inr q) = absurd (other k is (sym q.0))
 
@@ -152,7 +151,7 @@ module _ (number : ℕ) (counted : ℕ → Bool) (before : Jobs) (s : Floor) (va
 
   -- ---- so many slots
 
-  slot-works : (slot : SlotNo) (code : ℕ) (f : ToolFloor) → 1 ≤ slot.0 → slot.0 ≤ 25 → Fills slot.0 f → AtWork number counted before (with_shop s f) → Unnamed f → Keeps f (registers_slot c port slot.0 code f)
+  slot-works : (slot : SlotNo) (code : ℕ) (f : ToolFloor) → 1 ≤ slot.0 → slot.0 ≤ 25 → Fills slot.0 f → AtWork number planned counted before (with_shop s f) → Unnamed f → Keeps f (registers_slot c port slot.0 code f)
   slot-works slot code f first last fill e unnamed = by_code (code == 3) where
     by_can : (b : Bool) → Keeps f (if b then record f { places = registered (name_in_slot c.name slot.0) (Slot port slot) f.places; substrates = f.substrates ++ first_substrate (f.places.given + 1) (name_in_slot c.name slot.0) c.number (Slot port slot) ∷ [] } else f)
     by_can true = one-works slot f first last fill e unnamed
@@ -172,8 +171,8 @@ module _ (number : ℕ) (counted : ℕ → Bool) (before : Jobs) (s : Floor) (va
     by_code true = by_can (can_register (name_in_slot c.name slot) (Slot port (record { 0 = slot })) f.places)
     by_code false = refl
 
-  pub slots-work : (count k : ℕ) (codes : List ℕ) (f : ToolFloor) → 1 ≤ k → k + count ≤ 26 → Filling s valid c d port found present is_read at named k f → AtWork number counted before (with_shop s f) → Unnamed f
-      → AtWork number counted before (with_shop s (registers_slots c port k count codes f)) × (owed_to counted (picture (with_shop s (registers_slots c port k count codes f))) ≡ owed_to counted (picture (with_shop s f)))
+  pub slots-work : (count k : ℕ) (codes : List ℕ) (f : ToolFloor) → 1 ≤ k → k + count ≤ 26 → Filling s valid c d port found present is_read at named k f → AtWork number planned counted before (with_shop s f) → Unnamed f
+      → AtWork number planned counted before (with_shop s (registers_slots c port k count codes f)) × (owed_to planned counted (picture (with_shop s (registers_slots c port k count codes f))) ≡ owed_to planned counted (picture (with_shop s f)))
   slots-work zero k codes f first last fill e unnamed = (e, refl)
   slots-work (suc count) k [] f first last fill e unnamed = (e, refl)
   slots-work (suc count) k (code ∷ codes) f first last fill e unnamed =
@@ -187,7 +186,7 @@ module _ (number : ℕ) (counted : ℕ → Bool) (before : Jobs) (s : Floor) (va
 
 -- ---- the row
 
-module _ (number : ℕ) (counted : ℕ → Bool) (f : ToolFloor) (sound : Sound f) {before : Jobs} (e : AtWork number counted before f) (n row : ℕ) (reaches : reaches_verified row ≡ true) (starts : shop.floor_starts (firing 9 n row) f.shop ≡ true) where
+module _ (number : ℕ) (planned : ℕ → List (List ℕ)) (counted : ℕ → Bool) (f : ToolFloor) (sound : Sound f) {before : Jobs} (e : AtWork number planned counted before f) (n row : ℕ) (reaches : reaches_verified row ≡ true) (starts : shop.floor_starts (firing 9 n row) f.shop ≡ true) where
   b : Base f
   b = sound.base
 
@@ -207,11 +206,11 @@ module _ (number : ℕ) (counted : ℕ → Bool) (f : ToolFloor) (sound : Sound 
   stay = stay_numbered n change (λ c. refl) goes f.shop.carriers
 
   -- first the map is VERIFIED
-  first_works : AtWork number counted before (with_shop verified_shop f)
-  first_works = shop-works number counted f b e verified_shop stay valid (same_use f verified_shop (map_access f.shop n row))
+  first_works : AtWork number planned counted before (with_shop verified_shop f)
+  first_works = shop-works number planned counted f b e verified_shop stay valid (same_use f verified_shop (map_access f.shop n row))
 
   abbrev Goal : ToolFloor → Type 0
-  Goal g = AtWork number counted before g × (owed_to counted (picture g) ≡ owed_to counted (picture f))
+  Goal g = AtWork number planned counted before g × (owed_to planned counted (picture g) ≡ owed_to planned counted (picture f))
 
   module _ (c : Carrier) (found : carrier_numbered n f.shop.carriers ≡ Some c) (is : Becomes row c) (port : PortNo) (at : c.port ≡ Some port) where
     its_number : c.number ≡ n
@@ -256,7 +255,7 @@ module _ (number : ℕ) (counted : ℕ → Bool) (f : ToolFloor) (sound : Sound 
         true≢false (sym read ∙ is.not_yet)
 
     filled : Goal (with_shop verified_shop (registers_slots c port 1 25 c.map f))
-    filled = slots-work number counted before verified_shop valid c (change c) port changed_there is.here is.then_is at refl 25 1 c.map f (omega arith) (omega arith) filling first_works unnamed
+    filled = slots-work number planned counted before verified_shop valid c (change c) port changed_there is.here is.then_is at refl 25 1 c.map f (omega arith) (omega arith) filling first_works unnamed
 
   at_port : (c : Carrier) → carrier_numbered n f.shop.carriers ≡ Some c → Becomes row c → (o : Option PortNo) → c.port ≡ o → Goal (with_shop verified_shop (registers_at_port o c f))
   at_port c found is None at = absurd (subst (λ (o : Option PortNo). IsSomeAnd o (λ (m : PortNo). (1 ≤ m.0) × (m.0 ≤ length f.shop.ports))) at (has_number f.shop c (numbered_contained n f.shop.carriers c found) is.here b.shop))
@@ -290,13 +289,13 @@ module _ (number : ℕ) (counted : ℕ → Bool) (f : ToolFloor) (sound : Sound 
     of (Some port) = same_slots c port 25 1 c.map f
 
   -- rows 1 and 3 of table 9
-  pub registration-works : WorksOn number counted before f (floor_fired (firing 9 n row) f)
+  pub registration-works : WorksOn number planned counted before f (floor_fired (firing 9 n row) f)
   registration-works =
-      subst (λ (t : Bool). WorksOn number counted before f (with_shop verified_shop (if t then registers_found (carrier_numbered n f.shop.carriers) f else f))) (sym reaches)
+      subst (λ (t : Bool). WorksOn number planned counted before f (with_shop verified_shop (if t then registers_found (carrier_numbered n f.shop.carriers) f else f))) (sym reaches)
       (let on = at_carrier (carrier_numbered n f.shop.carriers) refl in (on.0, same_found (carrier_numbered n f.shop.carriers), on.1))
 
 -- so it executes on behind them
-pub registration-executes : (number : ℕ) (counted : ℕ → Bool) (f : ToolFloor) → Sound f → Executes number counted f → (n row : ℕ) → reaches_verified row ≡ true → shop.floor_starts (firing 9 n row) f.shop ≡ true
-    → Executes number counted (floor_fired (firing 9 n row) f) × (owed_to counted (picture (floor_fired (firing 9 n row) f)) ≡ owed_to counted (picture f))
-registration-executes number counted f sound e n row reaches starts =
-    works_execute number counted f (floor_fired (firing 9 n row) f) e (registration-works number counted f sound (at_work_of number counted f e) n row reaches starts)
+pub registration-executes : (number : ℕ) (planned : ℕ → List (List ℕ)) (counted : ℕ → Bool) (f : ToolFloor) → Sound f → Executes number planned counted f → (n row : ℕ) → reaches_verified row ≡ true → shop.floor_starts (firing 9 n row) f.shop ≡ true
+    → Executes number planned counted (floor_fired (firing 9 n row) f) × (owed_to planned counted (picture (floor_fired (firing 9 n row) f)) ≡ owed_to planned counted (picture f))
+registration-executes number planned counted f sound e n row reaches starts =
+    works_execute number planned counted f (floor_fired (firing 9 n row) f) e (registration-works number planned counted f sound (at_work_of number planned counted f e) n row reaches starts)

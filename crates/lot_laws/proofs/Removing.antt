@@ -46,10 +46,9 @@ use Rattle.floor_laws.proofs.RemAgree.{forgetting_agrees}
 use Rattle.floor_laws.proofs.RemPlaces.{filter_all}
 use Rattle.floor_laws.proofs.RemSound.{OwnerEnded, Kept, vacated_kept}
 use Rattle.floor_laws.proofs.ShopAccess.{SameAccess, access_same}
-use Rattle.lot_laws.specs.Lot.{one_step, owed_to}
+use Rattle.owed_laws.specs.Owed.{owed_to}
 use Rattle.owed_laws.specs.Undisturbed.{Undisturbed}
-use Rattle.owed_laws.proofs.Agreeing.{agree-undisturbed}
-use Rattle.lot_laws.proofs.Owing.{agree-owed}
+use Rattle.owed_laws.proofs.Agreeing.{agree-undisturbed, agree-owed}
 use Rattle.owed_laws.proofs.Carrying.{forgotten-stays}
 use Rattle.lot_laws.specs.Lot.{is_in_named_slot, first_naming, IsInJob, Waits, AtWork}
 use Rattle.lot_laws.proofs.First.{any_alike, first_shop}
@@ -84,7 +83,7 @@ named_still name other (c ∷ cs) apart = of (has_name name c) refl (named_still
 
 -- ---- the carrier goes with its substrates
 
-module _ (number : ℕ) (counted : ℕ → Bool) (f : ToolFloor) (kept : Kept f) {before : Jobs} (e : AtWork number counted before f) (name : List ℕ) (c : Carrier) (found : carrier_named name f.shop.carriers ≡ Some c) (ends : HasEnded c.number (picture f)) (ps : List Port) (next : ℕ) where
+module _ (number : ℕ) (planned : ℕ → List (List ℕ)) (counted : ℕ → Bool) (f : ToolFloor) (kept : Kept f) {before : Jobs} (e : AtWork number planned counted before f) (name : List ℕ) (c : Carrier) (found : carrier_named name f.shop.carriers ≡ Some c) (ends : HasEnded c.number (picture f)) (ps : List Port) (next : ℕ) where
   abbrev taken : ToolFloor
   taken = with_shop (floor_of ps (without name f.shop.carriers) next) (without_carrier (Some c.number) f)
 
@@ -162,10 +161,10 @@ module _ (number : ℕ) (counted : ℕ → Bool) (f : ToolFloor) (kept : Kept f)
       of true q = refl
       of false q = q
 
-  stays : Undisturbed counted (forgotten c.number (picture f)) × (owed_to counted (forgotten c.number (picture f)) ≡ owed_to counted (picture f))
-  stays = forgotten-stays (one_step (picture f)) counted (picture f) kept.valid (work-undisturbed number counted f (on_base f kept.base) e) c.number ends
+  stays : Undisturbed counted (forgotten c.number (picture f)) × (owed_to planned counted (forgotten c.number (picture f)) ≡ owed_to planned counted (picture f))
+  stays = forgotten-stays planned counted (picture f) kept.valid (work-undisturbed number planned counted f (on_base f kept.base) e) c.number ends
 
-  pub taken-works : WorksOn number counted before f (with_shop (floor_of ps (without name f.shop.carriers) next) (without_carrier (Some c.number) f))
+  pub taken-works : WorksOn number planned counted before f (with_shop (floor_of ps (without name f.shop.carriers) next) (without_carrier (Some c.number) f))
   taken-works = (
     record {
       steers = e.steers;
@@ -176,20 +175,20 @@ module _ (number : ℕ) (counted : ℕ → Bool) (f : ToolFloor) (kept : Kept f)
       substrates = (agree-undisturbed (forgotten c.number (picture f)) (picture taken) agrees counted (forgotten-keeps (picture f) kept.valid c.number ends) stays.0).substrates;
     },
     refl,
-    agree-owed (forgotten c.number (picture f)) (picture taken) agrees counted ∙ stays.1,
+    agree-owed (forgotten c.number (picture f)) (picture taken) agrees planned counted ∙ stays.1,
   ) where
-    stands : (n : ℕ) (x : Substrate) → substrate_numbered n taken.substrates ≡ Some x → not (is_of c.number x) ≡ true → (is_done_by_numbers n (picture f) ≡ true) ⊎ (IsInJob number x f ⊎ Waits number x f) → (is_done_by_numbers n (picture taken) ≡ true) ⊎ (IsInJob number x taken ⊎ Waits number x taken)
+    stands : (n : ℕ) (x : Substrate) → substrate_numbered n taken.substrates ≡ Some x → not (is_of c.number x) ≡ true → (is_done_by_numbers n (picture f) ≡ true) ⊎ (IsInJob number (planned n) x f ⊎ Waits number (planned n) x f) → (is_done_by_numbers n (picture taken) ≡ true) ⊎ (IsInJob number (planned n) x taken ⊎ Waits number (planned n) x taken)
     stands n x there away (inl done) = inl (done_on n x there done)
-    stands n x there away (inr (inl its)) = inr (inl (its.0, its.1, first_same x away ∙ its.2))
-    stands n x there away (inr (inr w)) = inr (inr (record { at = w.at; job = w.job; kept = w.kept; left = w.left; first = first_same x away ∙ w.first; queued = w.queued; joins = join_same x away w.job ∙ w.joins }))
+    stands n x there away (inr (inl its)) = inr (inl (its.0, its.1, first_same x away ∙ its.2, its.3))
+    stands n x there away (inr (inr w)) = inr (inr (record { at = w.at; job = w.job; kept = w.kept; left = w.left; first = first_same x away ∙ w.first; goes_by = w.goes_by; queued = w.queued; joins = join_same x away w.job ∙ w.joins }))
 
 -- ---- row 6 of table 7
 
-module _ (number : ℕ) (counted : ℕ → Bool) (port : ℕ) (f : ToolFloor) (kept : Kept f) {before : Jobs} (e : AtWork number counted before f) where
+module _ (number : ℕ) (planned : ℕ → List (List ℕ)) (counted : ℕ → Bool) (port : ℕ) (f : ToolFloor) (kept : Kept f) {before : Jobs} (e : AtWork number planned counted before f) where
   -- where the carriers stay
-  ports-work : (ps : List Port) (cs : List Carrier) (next : ℕ) → cs ≡ f.shop.carriers → IsFloor (floor_of ps cs next) → WorksOn number counted before f (with_shop (floor_of ps cs next) f)
+  ports-work : (ps : List Port) (cs : List Carrier) (next : ℕ) → cs ≡ f.shop.carriers → IsFloor (floor_of ps cs next) → WorksOn number planned counted before f (with_shop (floor_of ps cs next) f)
   ports-work ps cs next same valid = (
-    shop-works number counted f kept.base e (floor_of ps cs next) (subst (λ (ds : List Carrier). Stay f.shop.carriers ds) (sym same) (stay_same f.shop.carriers)) valid
+    shop-works number planned counted f kept.base e (floor_of ps cs next) (subst (λ (ds : List Carrier). Stay f.shop.carriers ds) (sym same) (stay_same f.shop.carriers)) valid
         (same_use f (floor_of ps cs next) (subst (λ (ds : List Carrier). SameAccess f.shop.carriers ds) (sym same) (access_same f.shop.carriers))),
     refl,
     refl,
@@ -205,15 +204,15 @@ module _ (number : ℕ) (counted : ℕ → Bool) (port : ℕ) (f : ToolFloor) (k
       filter_all (λ (c : Carrier). not (has_name name c)) f.shop.carriers
       (all_follows (λ (c : Carrier). has_name name c ≡ false) (λ (c : Carrier). not (has_name name c) ≡ true) f.shop.carriers (λ c other. ap not other) (unknown_all name f.shop.carriers (none_passes (has_name name) f.shop.carriers none)))
 
-  pub forgotten-works : floor_starts (firing 7 port 6) f ≡ true → OwnerEnded port f → WorksOn number counted before f (floor_fired (firing 7 port 6) f)
+  pub forgotten-works : floor_starts (firing 7 port 6) f ≡ true → OwnerEnded port f → WorksOn number planned counted before f (floor_fired (firing 7 port 6) f)
   forgotten-works starts ends = of (owner (port_numbered port f.shop.ports)) refl (shop_keeps (firing 7 port 6) f.shop starts kept.base.shop) where
     named : (name : List ℕ) → owner (port_numbered port f.shop.ports) ≡ Some name → (k : Option Carrier) → carrier_named name f.shop.carriers ≡ k → IsFloor (floor_of ports_then (without name f.shop.carriers) f.shop.next_carrier)
-        → WorksOn number counted before f (with_shop (floor_of ports_then (without name f.shop.carriers) f.shop.next_carrier) (without_carrier (option_map carrier_number k) f))
+        → WorksOn number planned counted before f (with_shop (floor_of ports_then (without name f.shop.carriers) f.shop.next_carrier) (without_carrier (option_map carrier_number k) f))
     named name its None none valid = ports-work ports_then (without name f.shop.carriers) f.shop.next_carrier (without_nobody name none) valid
-    named name its (Some c) found valid = taken-works number counted f kept e name c found (ends name c its found) ports_then f.shop.next_carrier
+    named name its (Some c) found valid = taken-works number planned counted f kept e name c found (ends name c its found) ports_then f.shop.next_carrier
 
     of : (o : Option (List ℕ)) → owner (port_numbered port f.shop.ports) ≡ o → IsFloor (floor_of ports_then (forgets o f.shop.carriers) f.shop.next_carrier)
-        → WorksOn number counted before f (with_shop (floor_of ports_then (forgets o f.shop.carriers) f.shop.next_carrier) (without_carrier (number_named o f.shop) f))
+        → WorksOn number planned counted before f (with_shop (floor_of ports_then (forgets o f.shop.carriers) f.shop.next_carrier) (without_carrier (number_named o f.shop) f))
     of None is valid = ports-work ports_then f.shop.carriers f.shop.next_carrier refl valid
     of (Some name) is valid = named name is (carrier_named name f.shop.carriers) refl valid
 
@@ -224,12 +223,12 @@ owner_stays : (port : ℕ) (f : ToolFloor) → owner (port_numbered port (floor_
 owner_stays zero f = refl
 owner_stays (suc place) f = owner_changed (Some (record { 0 = suc place })) (suc place) (ports.fires_row 4 5) f.shop.ports (λ q. refl)
 
-pub removed-works : (number : ℕ) (counted : ℕ → Bool) (port : ℕ) (f : ToolFloor) → Sound f → {before : Jobs} → AtWork number counted before f
+pub removed-works : (number : ℕ) (planned : ℕ → List (List ℕ)) (counted : ℕ → Bool) (port : ℕ) (f : ToolFloor) → Sound f → {before : Jobs} → AtWork number planned counted before f
     → floor_starts (firing 4 port 5) f ≡ true → floor_starts (firing 7 port 6) (floor_fired (firing 4 port 5) f) ≡ true → shop.floor_least f.shop ≡ None
-    → WorksOn number counted before f (floor_fired (firing 7 port 6) (floor_fired (firing 4 port 5) f))
-removed-works number counted port f sound e starts next rests =
+    → WorksOn number planned counted before f (floor_fired (firing 7 port 6) (floor_fired (firing 4 port 5) f))
+removed-works number planned counted port f sound e starts next rests =
     let g = floor_fired (firing 4 port 5) f in
-    let first = vacated-works number counted f sound e port starts in
+    let first = vacated-works number planned counted f sound e port starts in
     let ends = owner_ended port f starts rests sound in
-    let second = forgotten-works number counted port g (vacated_kept port f starts (record { base = sound.base; valid = sound.valid })) first.0 next (λ name c its found. ends name c (sym (owner_stays port f) ∙ its) found) in
+    let second = forgotten-works number planned counted port g (vacated_kept port f starts (record { base = sound.base; valid = sound.valid })) first.0 next (λ name c its found. ends name c (sym (owner_stays port f) ∙ its) found) in
     (second.0, second.1 ∙ first.1, second.2 ∙ first.2)

@@ -44,7 +44,8 @@ use Rattle.floor_laws.proofs.JobSays.{any_found}
 use Rattle.floor_laws.proofs.GrowTaken.{by_its_number}
 use Rattle.floor_laws.proofs.ShopAccess.{SameAccess, found_numbered, transfer_access, mode_access, reservation_access, association_access, id_access, map_access}
 use Rattle.floor_laws.proofs.ShopTables.{is_shop_row, MayAccess, may_access, takes_none}
-use Rattle.lot_laws.specs.Lot.{is_in_named_slot, first_naming, owed_to, IsInJob, Waits, Executes, AtWork}
+use Rattle.owed_laws.specs.Owed.{owed_to}
+use Rattle.lot_laws.specs.Lot.{is_in_named_slot, first_naming, IsInJob, Waits, Executes, AtWork}
 use Rattle.lot_laws.proofs.Standing.{on_base, carried, work-jobs}
 use Rattle.lot_laws.proofs.First.{any_alike, first_shop}
 use Rattle.lot_laws.proofs.AtWork.{at_work_of}
@@ -88,7 +89,7 @@ same_use f s same k c d found present there named less =
     let one : d ≡ w.0 = some_same d w.0 (sym there ∙ w.1) in
     subst (λ (a : ℕ). a ≤ 1) (sym (ap (λ (x : Carrier). access_number x.states.access) one ∙ w.2)) less
 
-module _ (number : ℕ) (counted : ℕ → Bool) (f : ToolFloor) (h : Base f) {before : Jobs} (e : AtWork number counted before f) (s : Floor) (stay : Stay f.shop.carriers s.carriers) (valid : IsFloor s) (keep : KeepUse f s) where
+module _ (number : ℕ) (planned : ℕ → List (List ℕ)) (counted : ℕ → Bool) (f : ToolFloor) (h : Base f) {before : Jobs} (e : AtWork number planned counted before f) (s : Floor) (stay : Stay f.shop.carriers s.carriers) (valid : IsFloor s) (keep : KeepUse f s) where
   -- ---- the slots that are named
 
   carrier_same : (n : ℕ) (x : Substrate) → substrate_numbered n f.substrates ≡ Some x → (name : List ℕ) → list_any (is_carrier_of name x.carrier) s.carriers ≡ list_any (is_carrier_of name x.carrier) f.shop.carriers
@@ -146,7 +147,7 @@ module _ (number : ℕ) (counted : ℕ → Bool) (f : ToolFloor) (h : Base f) {b
 
   -- ---- all of it
 
-  pub shop-works : AtWork number counted before (with_shop s f)
+  pub shop-works : AtWork number planned counted before (with_shop s f)
   shop-works = record {
     steers = e.steers;
     here = λ k j kept left. material_here k j kept (e.here k j kept left);
@@ -154,17 +155,17 @@ module _ (number : ℕ) (counted : ℕ → Bool) (f : ToolFloor) (h : Base f) {b
     stands = λ n x found is. by n x found (e.stands n x found is);
     all = λ n k x j found kept left can. e.all n k x j found kept left (sym (join_same n x found j) ∙ can);
     substrates = record {
-      here = λ n kept is left. in_access n kept ((work-jobs number counted f (on_base f h) e).named n kept is left) (e.substrates.here n kept is left);
+      here = λ n kept is left. in_access n kept ((work-jobs number planned counted f (on_base f h) e).named n kept is left) (e.substrates.here n kept is left);
       finished = e.substrates.finished;
       in_slot = e.substrates.in_slot;
       to_chamber = e.substrates.to_chamber;
       not_given = e.substrates.not_given;
     };
   } where
-    by : (n : ℕ) (x : Substrate) → substrate_numbered n f.substrates ≡ Some x → (is_done n (picture f) ≡ true) ⊎ (IsInJob number x f ⊎ Waits number x f) → (is_done n (picture (with_shop s f)) ≡ true) ⊎ (IsInJob number x (with_shop s f) ⊎ Waits number x (with_shop s f))
+    by : (n : ℕ) (x : Substrate) → substrate_numbered n f.substrates ≡ Some x → (is_done n (picture f) ≡ true) ⊎ (IsInJob number (planned n) x f ⊎ Waits number (planned n) x f) → (is_done n (picture (with_shop s f)) ≡ true) ⊎ (IsInJob number (planned n) x (with_shop s f) ⊎ Waits number (planned n) x (with_shop s f))
     by n x found (inl done) = inl done
-    by n x found (inr (inl its)) = inr (inl (its.0, its.1, first_same n x found ∙ its.2))
-    by n x found (inr (inr w)) = inr (inr (record { at = w.at; job = w.job; kept = w.kept; left = w.left; first = first_same n x found ∙ w.first; queued = w.queued; joins = join_same n x found w.job ∙ w.joins }))
+    by n x found (inr (inl its)) = inr (inl (its.0, its.1, first_same n x found ∙ its.2, its.3))
+    by n x found (inr (inr w)) = inr (inr (record { at = w.at; job = w.job; kept = w.kept; left = w.left; first = first_same n x found ∙ w.first; goes_by = w.goes_by; queued = w.queued; joins = join_same n x found w.job ∙ w.joins }))
 
     in_access : (n : ℕ) → is_one_of (picture f).substrates n ≡ true → (picture f).jobs.names_carrier ((picture f).carrier_of n) ≡ true → (picture f).access ((picture f).carrier_of n) ≤ 1 → (picture (with_shop s f)).access ((picture f).carrier_of n) ≤ 1
     in_access n kept named less =
@@ -193,16 +194,16 @@ accessing_use f n row c known may k x d found present there named less =
     of false q = less
     of true q = its (some_same x c (sym found ∙ ap (λ (i : ℕ). carrier_numbered i f.shop.carriers) ((Decides-eqb k n).0 q) ∙ known)) may
 
-module _ (number : ℕ) (counted : ℕ → Bool) (f : ToolFloor) (sound : Sound f) {before : Jobs} (e : AtWork number counted before f) where
+module _ (number : ℕ) (planned : ℕ → List (List ℕ)) (counted : ℕ → Bool) (f : ToolFloor) (sound : Sound f) {before : Jobs} (e : AtWork number planned counted before f) where
   abbrev Keeps : ToolFloor → Type 0
-  Keeps g = WorksOn number counted before f g
+  Keeps g = WorksOn number planned counted before f g
 
   accessing-works : (n row : ℕ) → (row == 4) ≡ false → floor_starts (firing 10 n row) f ≡ true → Keeps (floor_fired (firing 10 n row) f)
   accessing-works n row other starts = of (carrier_numbered n f.shop.carriers) refl starts where
     of : (o : Option Carrier) → carrier_numbered n f.shop.carriers ≡ o → accessing_starts row o f ≡ true → Keeps (floor_fired (firing 10 n row) f)
     of None known w = absurd (true≢false (sym w))
     of (Some c) known w = (
-      shop-works number counted f sound.base e (with_carrier n (carriers.fires_row 10 row) f.shop) (accessing_leaves f.substrates f.shop n row).stay (accessing-keeps f.shop n row sound.base.shop)
+      shop-works number planned counted f sound.base e (with_carrier n (carriers.fires_row 10 row) f.shop) (accessing_leaves f.substrates f.shop n row).stay (accessing-keeps f.shop n row sound.base.shop)
           (accessing_use f n row c known (may_access f row c other w)),
       refl,
       refl,
@@ -211,16 +212,16 @@ module _ (number : ℕ) (counted : ℕ → Bool) (f : ToolFloor) (sound : Sound 
   -- the locations
   location-works : (n row : ℕ) → Keeps (floor_fired (firing 11 n row) f)
   location-works n row = (record { steers = e.steers; here = e.here; members = e.members; stands = λ k x found is. by k x (e.stands k x found is); all = e.all; substrates = e.substrates }, refl, refl) where
-    by : (k : ℕ) (x : Substrate) → (is_done k (picture f) ≡ true) ⊎ (IsInJob number x f ⊎ Waits number x f) → (is_done k (picture f) ≡ true) ⊎ (IsInJob number x (floor_fired (firing 11 n row) f) ⊎ Waits number x (floor_fired (firing 11 n row) f))
+    by : (k : ℕ) (x : Substrate) → (is_done k (picture f) ≡ true) ⊎ (IsInJob number (planned k) x f ⊎ Waits number (planned k) x f) → (is_done k (picture f) ≡ true) ⊎ (IsInJob number (planned k) x (floor_fired (firing 11 n row) f) ⊎ Waits number (planned k) x (floor_fired (firing 11 n row) f))
     by k x (inl done) = inl done
     by k x (inr (inl its)) = inr (inl its)
-    by k x (inr (inr w)) = inr (inr (record { at = w.at; job = w.job; kept = w.kept; left = w.left; first = w.first; queued = w.queued; joins = w.joins }))
+    by k x (inr (inr w)) = inr (inr (record { at = w.at; job = w.job; kept = w.kept; left = w.left; first = w.first; goes_by = w.goes_by; queued = w.queued; joins = w.joins }))
 
   by_shop : (table object row : ℕ) → shop.floor_starts (firing table object row) f.shop ≡ true → Leaves f.substrates f.shop (shop.floor_fired (firing table object row) f.shop) → SameAccess f.shop.carriers (shop.floor_fired (firing table object row) f.shop).carriers
       → Keeps (with_shop (shop.floor_fired (firing table object row) f.shop) f)
   by_shop table object row s leaves same =
       let g = shop.floor_fired (firing table object row) f.shop in
-      (shop-works number counted f sound.base e g leaves.stay (shop_keeps (firing table object row) f.shop s sound.base.shop) (same_use f g same), refl, refl)
+      (shop-works number planned counted f sound.base e g leaves.stay (shop_keeps (firing table object row) f.shop s sound.base.shop) (same_use f g same), refl, refl)
 
   association-works : (port row : ℕ) → shop.floor_starts (firing 7 port row) f.shop ≡ true → is_gentle row ≡ true → Keeps (floor_fired (firing 7 port row) f)
   association-works port row s gentle =
@@ -233,7 +234,7 @@ module _ (number : ℕ) (counted : ℕ → Bool) (f : ToolFloor) (sound : Sound 
       (by_shop 9 carrier row s (map_leaves f.substrates f.shop carrier row reaches) (map_access f.shop carrier row))
 
   -- The rows of tables 4 to 11, but for 3 and 5 of table 4, 2 and 6 of table 7, those of table 9 that reach VERIFIED, and 4 of table 10.
-  pub shop_row-works : (x : Firing) → floor_starts x f ≡ true → is_shop_row x ≡ true → WorksOn number counted before f (floor_fired x f)
+  pub shop_row-works : (x : Firing) → floor_starts x f ≡ true → is_shop_row x ≡ true → WorksOn number planned counted before f (floor_fired x f)
   shop_row-works x starts kind =
       starts_cases (λ (y : Firing). is_shop_row y ≡ true → Keeps (floor_fired y f)) f x (record {
         transfer = λ s kind. by_shop 4 x.object x.row.row s (transfer_leaves f.substrates f.shop x.object x.row.row) (transfer_access f.shop x.object x.row.row);
@@ -252,7 +253,7 @@ module _ (number : ℕ) (counted : ℕ → Bool) (f : ToolFloor) (sound : Sound 
       }) starts kind
 
 -- so it executes on behind them
-pub shop_row-executes : (number : ℕ) (counted : ℕ → Bool) (f : ToolFloor) → Sound f → Executes number counted f → (x : Firing) → floor_starts x f ≡ true → is_shop_row x ≡ true
-    → Executes number counted (floor_fired x f) × (owed_to counted (picture (floor_fired x f)) ≡ owed_to counted (picture f))
-shop_row-executes number counted f sound e x starts kind =
-    works_execute number counted f (floor_fired x f) e (shop_row-works number counted f sound (at_work_of number counted f e) x starts kind)
+pub shop_row-executes : (number : ℕ) (planned : ℕ → List (List ℕ)) (counted : ℕ → Bool) (f : ToolFloor) → Sound f → Executes number planned counted f → (x : Firing) → floor_starts x f ≡ true → is_shop_row x ≡ true
+    → Executes number planned counted (floor_fired x f) × (owed_to planned counted (picture (floor_fired x f)) ≡ owed_to planned counted (picture f))
+shop_row-executes number planned counted f sound e x starts kind =
+    works_execute number planned counted f (floor_fired x f) e (shop_row-works number planned counted f sound (at_work_of number planned counted f e) x starts kind)

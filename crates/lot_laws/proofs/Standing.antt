@@ -1,5 +1,5 @@
 -- While a control job is at work, what its process jobs say of substrates stands as it does undisturbed.
-use Rattle.std.proofs.Common.{◌≡◌, ℕ, ◌==◌, Bool, true, false, not, ◌&&◌, ◌||◌, List, Some, refl, sym, ◌∙◌, ap, ◌⊎◌, inl, inr}
+use Rattle.std.proofs.Common.{◌≡◌, ℕ, ◌==◌, Bool, true, false, not, ◌&&◌, List, Option, Some, None, refl, sym, ◌∙◌, ap, ◌⊎◌, inl, inr}
 use Rattle.std.specs.List.{AllByRecursion}
 use Rattle.std.proofs.lemmas.Bool.{true≢false, and_parts, or_parts}
 use Rattle.carrier.specs.declared.carrier.Carrier.{Carrier}
@@ -14,10 +14,10 @@ use Rattle.tool_jobs.specs.Jobs.{Jobs}
 use Rattle.tool_jobs.specs.Together.{AreTogether}
 use Rattle.floor_model.specs.declared.tracked.Substrate.{Substrate}
 use Rattle.floor_model.specs.Floor.{ToolFloor, substrate_numbered, number_of}
-use Rattle.floor_model.specs.Jobs.{job_of, names_carrier, is_any_of_carrier, is_stopping, is_aborting, can_join}
+use Rattle.floor_model.specs.Jobs.{job_of, is_job_so, names_carrier, is_any_of_carrier, is_stopping, is_aborting, can_join}
 use Rattle.floor_moves.specs.Floor as law
 use Rattle.floor_moves.specs.Floor.{is_done}
-use Rattle.place_laws.specs.Picture.{picture, of_one}
+use Rattle.place_laws.specs.Picture.{picture, of_one, of_job}
 use Rattle.place_laws.specs.Standing.{IsCarried}
 use Rattle.place_laws.specs.Sound as sound
 use Rattle.place_laws.specs.Sound.{IsOfJob, IsInItsJob, Base}
@@ -98,9 +98,17 @@ module _ (f : ToolFloor) (h : IsCarriedOn f) where
       ∙ ap (of_one false (λ (x : Carrier). is_any_of_carrier x.name f.jobs)) its
       ∙ any_found _ (names_carrier c.name) f.jobs.process.kept j kept named
 
+-- what the job of a substrate says, by numbers
+pub job_said : (f : ToolFloor) (n : ℕ) (s : Substrate) → substrate_numbered n f.substrates ≡ Some s → (says : JobState → Bool)
+    → is_job_so says (job_of s f.jobs) ≡ of_one false (of_job false (λ (j : ProcessJob). says j.states.state) f.jobs) (substrate_numbered n f.substrates)
+job_said f n s known says = of (job_of s f.jobs) ∙ sym (ap (of_one false (of_job false (λ (j : ProcessJob). says j.states.state) f.jobs)) known) where
+  of : (o : Option ProcessJob) → is_job_so says o ≡ of_one false (λ (j : ProcessJob). says j.states.state) o
+  of None = refl
+  of (Some j) = refl
+
 -- ---- while it is at work
 
-module _ (number : ℕ) (counted : ℕ → Bool) {before : Jobs} (f : ToolFloor) (h : IsCarriedOn f) (e : AtWork number counted before f) where
+module _ (number : ℕ) (planned : ℕ → List (List ℕ)) (counted : ℕ → Bool) {before : Jobs} (f : ToolFloor) (h : IsCarriedOn f) (e : AtWork number planned counted before f) where
   -- the job of one that is in one is left in the control job
   pub work-left : (n : ℕ) (s : Substrate) (j : ProcessJob) → substrate_numbered n f.substrates ≡ Some s → job_of s f.jobs ≡ Some j → is_left_in number j.id f.jobs ≡ true
   work-left n s j found its = e.steers.started s.job j its (member_begun f h n s j found its)
@@ -127,7 +135,7 @@ module _ (number : ℕ) (counted : ℕ → Bool) {before : Jobs} (f : ToolFloor)
     first_so false b q = q
 
     names : (n : ℕ) (s : Substrate) → substrate_numbered n f.substrates ≡ Some s → law.is_finished ((picture f).processing n) ≡ false
-        → (is_done n (picture f) ≡ true) ⊎ (IsInJob number s f ⊎ Waits number s f) → (picture f).jobs.names_carrier ((picture f).carrier_of n) ≡ true
+        → (is_done n (picture f) ≡ true) ⊎ (IsInJob number (planned n) s f ⊎ Waits number (planned n) s f) → (picture f).jobs.names_carrier ((picture f).carrier_of n) ≡ true
     names n s found left (inl done) = absurd (true≢false (sym (first_so (law.is_finished ((picture f).processing n)) (not (law.is_outside ((picture f).place_of n))) done) ∙ left))
     names n s found left (inr (inl m)) =
         let is = member_job f h n s m.0 found m.1 in
@@ -142,9 +150,9 @@ module _ (number : ℕ) (counted : ℕ → Bool) {before : Jobs} (f : ToolFloor)
 -- ---- while it executes
 
 -- a counted one that isn't done is in the first job that names its slot, or waits for it
-pub first_takes : (number : ℕ) (counted : ℕ → Bool) (f : ToolFloor) → AreTogether f.jobs → Executes number counted f → (n : ℕ) (s : Substrate) → substrate_numbered n f.substrates ≡ Some s → counted n ≡ true → is_done n (picture f) ≡ false
+pub first_takes : (number : ℕ) (planned : ℕ → List (List ℕ)) (counted : ℕ → Bool) (f : ToolFloor) → AreTogether f.jobs → Executes number planned counted f → (n : ℕ) (s : Substrate) → substrate_numbered n f.substrates ≡ Some s → counted n ≡ true → is_done n (picture f) ≡ false
     → (j : ProcessJob) → job_numbered j.number f.jobs.process.kept ≡ Some j → first_naming number f s ≡ Some j.id → (job_of s f.jobs ≡ Some j) ⊎ ((is_queued j.states.state ≡ true) × (can_join j f.shop s ≡ true))
-first_takes number counted f t e n s found is left j its first = of (e.stands n s found is) where
+first_takes number planned counted f t e n s found is left j its first = of (e.stands n s found is) where
   -- a job that is kept under the same name is that one
   same : (k : ℕ) (i : ProcessJob) → job_numbered k f.jobs.process.kept ≡ Some i → first_naming number f s ≡ Some i.id → i ≡ j
   same k i kept f_is =
@@ -153,16 +161,16 @@ first_takes number counted f t e n s found is left j its first = of (e.stands n 
       ∙ ap (λ (name : List ℕ). job_named name f.jobs.process.kept) (some_same i.id j.id (sym f_is ∙ first))
       ∙ by_name j.number f.jobs.process.kept j t.process.apart its)
 
-  of : (is_done n (picture f) ≡ true) ⊎ (IsInJob number s f ⊎ Waits number s f) → (job_of s f.jobs ≡ Some j) ⊎ ((is_queued j.states.state ≡ true) × (can_join j f.shop s ≡ true))
+  of : (is_done n (picture f) ≡ true) ⊎ (IsInJob number (planned n) s f ⊎ Waits number (planned n) s f) → (job_of s f.jobs ≡ Some j) ⊎ ((is_queued j.states.state ≡ true) × (can_join j f.shop s ≡ true))
   of (inl done) = absurd (true≢false (sym done ∙ left))
   of (inr (inl m)) = inl (m.1 ∙ ap (λ (i : ProcessJob). Some i) (same s.job m.0 m.1 m.2))
   of (inr (inr w)) =
       let one = same w.at w.job w.kept w.first in
       inr (ap (λ (i : ProcessJob). is_queued i.states.state) (sym one) ∙ w.queued, ap (λ (i : ProcessJob). can_join i f.shop s) (sym one) ∙ w.joins)
 
-module _ (number : ℕ) (counted : ℕ → Bool) (f : ToolFloor) (h : IsCarriedOn f) (e : Executes number counted f) where
+module _ (number : ℕ) (planned : ℕ → List (List ℕ)) (counted : ℕ → Bool) (f : ToolFloor) (h : IsCarriedOn f) (e : Executes number planned counted f) where
   pub member_left : (n : ℕ) (s : Substrate) (j : ProcessJob) → substrate_numbered n f.substrates ≡ Some s → job_of s f.jobs ≡ Some j → is_left_in number j.id f.jobs ≡ true
-  member_left = work-left number counted f h (at_work_of number counted f e)
+  member_left = work-left number planned counted f h (at_work_of number planned counted f e)
 
   pub undisturbed : Undisturbed counted (picture f)
-  undisturbed = work-undisturbed number counted f h (at_work_of number counted f e)
+  undisturbed = work-undisturbed number planned counted f h (at_work_of number planned counted f e)

@@ -26,9 +26,9 @@ use Rattle.picture_laws.proofs.Rows.{transport_agrees}
 use Rattle.floor_laws.proofs.JobSight.{none_some, some_same, outside_same}
 use Rattle.floor_laws.proofs.JobSays.{member_tells}
 use Rattle.floor_laws.proofs.JobLists.{none_first}
-use Rattle.lot_laws.specs.Lot.{is_in_named_slot, first_naming, owed_to, IsInJob, Waits, Executes}
-use Rattle.owed_laws.proofs.Agreeing.{agree-undisturbed}
-use Rattle.lot_laws.proofs.Owing.{agree-owed}
+use Rattle.owed_laws.specs.Owed.{owed_to}
+use Rattle.lot_laws.specs.Lot.{is_in_named_slot, first_naming, IsInJob, Waits, Executes}
+use Rattle.owed_laws.proofs.Agreeing.{agree-undisturbed, agree-owed}
 use Rattle.lot_laws.proofs.Standing.{on_base, joins_tell, undisturbed}
 use Rattle.lot_laws.proofs.First.{first_alone}
 use Rattle.place_laws.proofs.Holding.{found_among}
@@ -54,16 +54,16 @@ found_back n change keeps k ss y e = of (k == n) refl where
     at (Some x) g = (x, g, inl (same, sym (some_same (change x) y (sym (ap (option_map change) (sym (ap (λ (i : ℕ). substrate_numbered i ss) same) ∙ g)) ∙ sym (found_there n change keeps ss) ∙ there))))
 
 -- one substrate changes, and maybe the modules
-module _ (number : ℕ) (counted : ℕ → Bool) (f : ToolFloor) (e : Executes number counted f) (n : ℕ) (change : Substrate → Substrate) (keeps : (s : Substrate) → (change s).number ≡ s.number) (jobs : (s : Substrate) → (change s).job ≡ s.job) (slots : (s : Substrate) → ((change s).carrier ≡ s.carrier) × ((change s).slot ≡ s.slot)) (ms : List ToolModule) where
+module _ (number : ℕ) (planned : ℕ → List (List ℕ)) (counted : ℕ → Bool) (f : ToolFloor) (e : Executes number planned counted f) (n : ℕ) (change : Substrate → Substrate) (keeps : (s : Substrate) → (change s).number ≡ s.number) (jobs : (s : Substrate) → (change s).job ≡ s.job) (slots : (s : Substrate) → ((change s).carrier ≡ s.carrier) × ((change s).slot ≡ s.slot)) (ms : List ToolModule) where
   abbrev changed : ToolFloor
   changed = record f { substrates = change_numbered n change f.substrates; modules = ms }
 
   -- it executes on, where who is done stays so, who waits waits on, and what can be taken could be
   pub change-executes : ((k : ℕ) → (picture changed).jobs.is_member k ≡ (picture f).jobs.is_member k)
       → ((k : ℕ) → is_one_of (map number_of f.substrates) k ≡ true → is_done k (picture f) ≡ true → is_done k (picture changed) ≡ true)
-      → ((x : Substrate) → substrate_numbered n f.substrates ≡ Some x → (w : Waits number x f) → can_join w.job f.shop (change x) ≡ true)
+      → ((x : Substrate) → substrate_numbered n f.substrates ≡ Some x → (route : List (List ℕ)) (w : Waits number route x f) → can_join w.job f.shop (change x) ≡ true)
       → ((j : ProcessJob) (x : Substrate) → can_join j f.shop (change x) ≡ true → can_join j f.shop x ≡ true)
-      → SubstratesStand counted (picture changed) → Executes number counted changed
+      → SubstratesStand counted (picture changed) → Executes number planned counted changed
   change-executes members done waits takes stand = record {
     steers = e.steers;
     here = e.here;
@@ -80,14 +80,14 @@ module _ (number : ℕ) (counted : ℕ → Bool) (f : ToolFloor) (e : Executes n
     first k y x (inl c) = ap (first_naming number f) c.1 ∙ first_alone number f x (change x) (slots x).0 (slots x).1
     first k y x (inr c) = ap (first_naming number f) c.1
 
-    on : (k : ℕ) (y x : Substrate) → Case k y x → (w : Waits number x f) → can_join w.job f.shop y ≡ true → Waits number y changed
-    on k y x c w can = record { at = w.at; job = w.job; kept = w.kept; left = w.left; first = first k y x c ∙ w.first; queued = w.queued; joins = can }
+    on : (k : ℕ) (y x : Substrate) → Case k y x → (w : Waits number (planned k) x f) → can_join w.job f.shop y ≡ true → Waits number (planned k) y changed
+    on k y x c w can = record { at = w.at; job = w.job; kept = w.kept; left = w.left; first = first k y x c ∙ w.first; goes_by = w.goes_by; queued = w.queued; joins = can }
 
-    by : (k : ℕ) (y x : Substrate) → substrate_numbered k f.substrates ≡ Some x → Case k y x → (is_done k (picture f) ≡ true) ⊎ (IsInJob number x f ⊎ Waits number x f) → (is_done k (picture changed) ≡ true) ⊎ (IsInJob number y changed ⊎ Waits number y changed)
+    by : (k : ℕ) (y x : Substrate) → substrate_numbered k f.substrates ≡ Some x → Case k y x → (is_done k (picture f) ≡ true) ⊎ (IsInJob number (planned k) x f ⊎ Waits number (planned k) x f) → (is_done k (picture changed) ≡ true) ⊎ (IsInJob number (planned k) y changed ⊎ Waits number (planned k) y changed)
     by k y x found c (inl is) = inl (done k (found_among number_of k f.substrates x found) is)
-    by k y x found (inl c) (inr (inl its)) = inr (inl (its.0, ap (λ (i : ℕ). job_numbered i f.jobs.process.kept) (ap (λ (z : Substrate). z.job) c.1 ∙ jobs x) ∙ its.1, first k y x (inl c) ∙ its.2))
-    by k y x found (inr c) (inr (inl its)) = inr (inl (its.0, ap (λ (z : Substrate). job_numbered z.job f.jobs.process.kept) c.1 ∙ its.1, first k y x (inr c) ∙ its.2))
-    by k y x found (inl c) (inr (inr w)) = inr (inr (on k y x (inl c) w (ap (can_join w.job f.shop) c.1 ∙ waits x (ap (λ (i : ℕ). substrate_numbered i f.substrates) (sym c.0) ∙ found) w)))
+    by k y x found (inl c) (inr (inl its)) = inr (inl (its.0, ap (λ (i : ℕ). job_numbered i f.jobs.process.kept) (ap (λ (z : Substrate). z.job) c.1 ∙ jobs x) ∙ its.1, first k y x (inl c) ∙ its.2, its.3))
+    by k y x found (inr c) (inr (inl its)) = inr (inl (its.0, ap (λ (z : Substrate). job_numbered z.job f.jobs.process.kept) c.1 ∙ its.1, first k y x (inr c) ∙ its.2, its.3))
+    by k y x found (inl c) (inr (inr w)) = inr (inr (on k y x (inl c) w (ap (can_join w.job f.shop) c.1 ∙ waits x (ap (λ (i : ℕ). substrate_numbered i f.substrates) (sym c.0) ∙ found) (planned k) w)))
     by k y x found (inr c) (inr (inr w)) = inr (inr (on k y x (inr c) w (ap (can_join w.job f.shop) c.1 ∙ w.joins)))
 
     was : (k : ℕ) (j : ProcessJob) (y x : Substrate) → Case k y x → can_join j f.shop y ≡ true → can_join j f.shop x ≡ true
@@ -113,7 +113,7 @@ source_stays : (row : ℕ) (t : Transport) → (row == 2) ≡ false → is_at_so
 source_stays row transport.AtSource two e = after_meets transport_number is_at_source (λ n. n == 2) row transport.AtSource transport_table two refl refl
 source_stays row _ two e = absurd (true≢false (sym e))
 
-module _ (number : ℕ) (counted : ℕ → Bool) (f : ToolFloor) (h : Sound f) (e : Executes number counted f) (n row : ℕ) where
+module _ (number : ℕ) (planned : ℕ → List (List ℕ)) (counted : ℕ → Bool) (f : ToolFloor) (h : Sound f) (e : Executes number planned counted f) (n row : ℕ) where
   -- what the table of transport changes isn't looked at by numbers
   moved_agrees : Agree (picture f) (picture (with_moved 12 row n f))
   moved_agrees = transport_agrees f n row
@@ -121,8 +121,8 @@ module _ (number : ℕ) (counted : ℕ → Bool) (f : ToolFloor) (h : Sound f) (
   -- the row of the number starts: 2 where the substrate is outside
   module _ (starts : (x : Substrate) → substrate_numbered n f.substrates ≡ Some x → (row == 2) ≡ true → is_outside x f.places ≡ true) where
     -- one that waits isn't outside
-    not_outside : (k : ℕ) (x : Substrate) → substrate_numbered k f.substrates ≡ Some x → (w : Waits number x f) → is_outside x f.places ≡ true → ⊥
-    not_outside k x found w out =
+    not_outside : (k : ℕ) (x : Substrate) → substrate_numbered k f.substrates ≡ Some x → (route : List (List ℕ)) (w : Waits number route x f) → is_outside x f.places ≡ true → ⊥
+    not_outside k x found route w out =
         let is = h.valid.members.outside k (sym (outside_same f h.base k x found) ∙ out) in
         let m = member_tells f.substrates f.jobs k (λ j. true) is in
         let one : x ≡ m.one = some_same x m.one (sym found ∙ m.found) in
@@ -132,8 +132,8 @@ module _ (number : ℕ) (counted : ℕ → Bool) (f : ToolFloor) (h : Sound f) (
         in_none : (j : ProcessJob) → job_numbered 0 f.jobs.process.kept ≡ Some j → ⊥
         in_none j g = none_some j (sym (none_first f.jobs.process.given f.jobs.process.kept h.base.jobs.numbered) ∙ g)
 
-    waits_on : (x : Substrate) → substrate_numbered n f.substrates ≡ Some x → (w : Waits number x f) → can_join w.job f.shop (substrate_moves 12 row x) ≡ true
-    waits_on x found w =
+    waits_on : (x : Substrate) → substrate_numbered n f.substrates ≡ Some x → (route : List (List ℕ)) (w : Waits number route x f) → can_join w.job f.shop (substrate_moves 12 row x) ≡ true
+    waits_on x found route w =
         let tells = joins_tell w.job f x w.joins in
         both (is_at_source (after transport_number transport_table row x.states.transport) && is_needing x.states.processing) ((x.job == 0) && is_in_named_slot w.job f.shop x)
         (both (is_at_source (after transport_number transport_table row x.states.transport)) (is_needing x.states.processing) (source_stays row x.states.transport (other (row == 2) refl) tells.source) tells.needs)
@@ -141,15 +141,15 @@ module _ (number : ℕ) (counted : ℕ → Bool) (f : ToolFloor) (h : Sound f) (
       where
         other : (b : Bool) → (row == 2) ≡ b → b ≡ false
         other false q = refl
-        other true q = absurd (not_outside n x found w (starts x found q))
+        other true q = absurd (not_outside n x found route w (starts x found q))
 
     -- table 12
-    pub transport-executes : Executes number counted (with_moved 12 row n f) × (owed_to counted (picture (with_moved 12 row n f)) ≡ owed_to counted (picture f))
+    pub transport-executes : Executes number planned counted (with_moved 12 row n f) × (owed_to planned counted (picture (with_moved 12 row n f)) ≡ owed_to planned counted (picture f))
     transport-executes = (
-      change-executes number counted f e n (substrate_moves 12 row) (λ x. refl) (λ x. refl) (λ x. (refl, refl)) f.modules moved_agrees.jobs.is_member
+      change-executes number planned counted f e n (substrate_moves 12 row) (λ x. refl) (λ x. refl) (λ x. (refl, refl)) f.modules moved_agrees.jobs.is_member
           (λ k kept done. ap (λ (p : ℕ). law.is_finished p && not (law.is_outside ((picture f).place_of k))) (moved_agrees.processing k kept) ∙ done) waits_on takes
-          (agree-undisturbed (picture f) (picture (with_moved 12 row n f)) moved_agrees counted h.valid (undisturbed number counted f (on_base f h.base) e)).substrates,
-      agree-owed (picture f) (picture (with_moved 12 row n f)) moved_agrees counted,
+          (agree-undisturbed (picture f) (picture (with_moved 12 row n f)) moved_agrees counted h.valid (undisturbed number planned counted f (on_base f h.base) e)).substrates,
+      agree-owed (picture f) (picture (with_moved 12 row n f)) moved_agrees planned counted,
     ) where
       takes : (j : ProcessJob) (x : Substrate) → can_join j f.shop (substrate_moves 12 row x) ≡ true → can_join j f.shop x ≡ true
       takes j x can =

@@ -1,6 +1,6 @@
 -- A control job stays at work behind each row that a word fires and where jobs are created, and as much is owed; or it is disturbed for
 -- good.
-use Rattle.std.proofs.Common.{◌≡◌, ℕ, ◌==◌, Bool, true, false, not, ◌||◌, List, [], ◌∷◌, Option, Some, None, option_map, refl, sym, ◌∙◌, ap, subst, inl, inr}
+use Rattle.std.proofs.Common.{◌≡◌, ℕ, ◌==◌, Bool, true, false, not, List, [], ◌∷◌, Option, Some, None, option_map, refl, sym, ◌∙◌, ap, subst, inl, inr}
 use Rattle.std.proofs.lemmas.Bool.{true≢false}
 use Rattle.std.proofs.lemmas.Bool.Decides.{Decides-eqb}
 use Rattle.gem_tables.specs.Table.{is_one_of, row_of, found_starts, firing, after}
@@ -22,7 +22,7 @@ use Rattle.control_job.specs.declared.job.ControlJob.{ControlJob}
 use Rattle.control_job.specs.declared.record.ControlJobRecord.{ControlJobRecord}
 use Rattle.records.proofs.Truth.{not_true}
 use Rattle.tool_jobs.specs.Wants.{process_wants, control_wants, is_ending, ends_so}
-use Rattle.tool_jobs.specs.Rows.{ended, process_starts, control_starts, control_fired}
+use Rattle.tool_jobs.specs.Rows.{ended, process_starts, control_starts}
 use Rattle.tool_jobs.specs.Together.{AreTogether}
 use Rattle.tool_jobs.specs.Creating.{with_process, with_control, control_fault}
 use Rattle.tool_jobs.proofs.Rows.{stays_passive, after_meets}
@@ -35,7 +35,7 @@ use Rattle.floor_laws.proofs.JobSight.{some_same}
 use Rattle.floor_laws.proofs.JobLists.{job_number_is, fired_there}
 use Rattle.floor_laws.proofs.JobFires.{fired_jobs}
 use Rattle.floor_laws.proofs.JobEnds.{freed_alone}
-use Rattle.lot_laws.specs.Lot.{owed_to}
+use Rattle.owed_laws.specs.Owed.{owed_to}
 use Rattle.queue_laws.specs.Started.{is_queued, is_left_in, AreStarted}
 use Rattle.queue_laws.proofs.Lists.{gone_back}
 use Rattle.queue_laws.proofs.Rows.{stays_queued, start_fits}
@@ -113,13 +113,13 @@ process_words = 1 ∷ 5 ∷ 8 ∷ 10 ∷ 11 ∷ 12 ∷ 15 ∷ []
 abbrev pub control_words : List ℕ
 control_words = 1 ∷ 5 ∷ 6 ∷ 7 ∷ 9 ∷ 10 ∷ 11 ∷ 12 ∷ []
 
-module _ (number : ℕ) (counted : ℕ → Bool) (before f : ToolFloor) (h : Sound f) (t : AreTogether f.jobs) (s : AreStarted f.jobs) where
+module _ (number : ℕ) (planned : ℕ → List (List ℕ)) (counted : ℕ → Bool) (before f : ToolFloor) (h : Sound f) (t : AreTogether f.jobs) (s : AreStarted f.jobs) where
   -- what is so behind a row
   abbrev Goes : ToolFloor → Type 0
-  Goes g = WorksOrIsDisturbed number counted before g
+  Goes g = WorksOrIsDisturbed number planned counted before g
 
   abbrev AsMuch : Type 0
-  AsMuch = owed_to counted (picture f) ≡ owed_to counted (picture before)
+  AsMuch = owed_to planned counted (picture f) ≡ owed_to planned counted (picture before)
 
   -- ---- words of process jobs
 
@@ -133,10 +133,10 @@ module _ (number : ℕ) (counted : ℕ → Bool) (before f : ToolFloor) (h : Sou
     there : (row : ℕ) → job_numbered n (fired_jobs n row f.jobs).process.kept ≡ Some (fires_row row j)
     there row = fired_there n row f.jobs.process.kept ∙ ap (option_map (fires_row row)) known
 
-    module _ (e : AtWork number counted before.jobs f) (owed : AsMuch) where
+    module _ (e : AtWork number planned counted before.jobs f) (owed : AsMuch) where
       stays_at : (row : ℕ) → (row == 2) ≡ false → (is_left_in number j.id f.jobs ≡ true → breaks_off (after job_number job_table row j.states.state) ≡ false)
           → (is_queued (after job_number job_table row j.states.state) ≡ false → is_left_in number j.id f.jobs ≡ true) → Goes (with_jobs (fired_jobs n row f.jobs) f)
-      stays_at row two whole stays = inl (state-work number counted f h t s e n j known row two (state-works number before.jobs f.jobs t s e.steers row n j known whole stays), owed)
+      stays_at row two whole stays = inl (state-work number planned counted f h t s e n j known row two (state-works number before.jobs f.jobs t s e.steers row n j known whole stays), owed)
 
       -- of one that is left in it
       of_left : is_left_in number j.id f.jobs ≡ true → (row : ℕ) → is_one_of process_words row ≡ true → Starts row → Behind row
@@ -177,8 +177,8 @@ module _ (number : ℕ) (counted : ℕ → Bool) (before f : ToolFloor) (h : Sou
         cancelled : Starts 15 → Behind 15
         cancelled st =
             subst Goes (sym (fifteen_is f n j known)) (inl (
-              ended-work number counted f h t s e n j known (queued_done f n j known h queued) (λ q l. true≢false (sym l ∙ out)),
-              behind_owed f (freed j.number) (freed_alone j.number) (ended n f.jobs) counted ∙ owed,
+              ended-work number planned counted f h t s e n j known (queued_done f n j known h queued) (λ q l. true≢false (sym l ∙ out)),
+              behind_owed f (freed j.number) (freed_alone j.number) (ended n f.jobs) planned counted ∙ owed,
             ))
 
     -- where it is disturbed
@@ -216,12 +216,12 @@ module _ (number : ℕ) (counted : ℕ → Bool) (before f : ToolFloor) (h : Sou
         one_of_cases (λ (r : ℕ). ((r == 2) ≡ false) × ((r == 8) ≡ false)) control_words row
         ((refl, refl), ((refl, refl), ((refl, refl), ((refl, refl), ((refl, refl), ((refl, refl), ((refl, refl), ((refl, refl), tt)))))))) one
 
-    module _ (e : AtWork number counted before.jobs f) (owed : AsMuch) where
+    module _ (e : AtWork number planned counted before.jobs f) (owed : AsMuch) where
       -- of another one
       control_other : (m == number) ≡ false → (row : ℕ) → is_one_of control_words row ≡ true → ControlBehind m row
       control_other other row one =
           inl (
-            controls-work number counted f (fired_at m row f.jobs.control) (other_left number before.jobs f.jobs t s e.steers row m other)
+            controls-work number planned counted f (fired_at m row f.jobs.control) (other_left number before.jobs f.jobs t s e.steers row m other)
                 (row_names number before.jobs f.jobs t s e.steers row m) e
                 (other-works number before.jobs f.jobs t s e.steers row m d at other still),
             owed,
@@ -245,7 +245,7 @@ module _ (number : ℕ) (counted : ℕ → Bool) (before f : ToolFloor) (h : Sou
         quiet : (r : ℕ) → is_one_of (1 ∷ 6 ∷ 7 ∷ []) r ≡ true → ControlBehind number r
         quiet r o =
             inl (
-              controls-work number counted f (fired_at number r f.jobs.control) (own_left number before.jobs f.jobs t s e.steers r o)
+              controls-work number planned counted f (fired_at number r f.jobs.control) (own_left number before.jobs f.jobs t s e.steers r o)
                   (row_names number before.jobs f.jobs t s e.steers r number) e
                   (own-works number before.jobs f.jobs t s e.steers r o),
               owed,
@@ -294,23 +294,23 @@ module _ (number : ℕ) (counted : ℕ → Bool) (before f : ToolFloor) (h : Sou
 
 -- ---- as laws
 
-module _ (number : ℕ) (counted : ℕ → Bool) (before f : ToolFloor) (o : InOrder f) where
+module _ (number : ℕ) (planned : ℕ → List (List ℕ)) (counted : ℕ → Bool) (before f : ToolFloor) (o : InOrder f) where
   -- behind a row that a word fires
-  pub word-goes : (x : Firing) → is_word x ≡ true → floor_starts x f ≡ true → WorksOrIsDisturbed number counted before f → WorksOrIsDisturbed number counted before (floor_fired x f)
-  word-goes x word starts goes = word_at number counted before f o.sound o.together o.started x word starts goes
+  pub word-goes : (x : Firing) → is_word x ≡ true → floor_starts x f ≡ true → WorksOrIsDisturbed number planned counted before f → WorksOrIsDisturbed number planned counted before (floor_fired x f)
+  word-goes x word starts goes = word_at number planned counted before f o.sound o.together o.started x word starts goes
 
   -- where a process job is created
-  pub created-goes : (spec : JobSpec) → create_fault spec f.jobs.process ≡ None → WorksOrIsDisturbed number counted before f → WorksOrIsDisturbed number counted before (with_jobs (with_process spec f.jobs) f)
-  created-goes spec free (inl w) = inl (created-work number counted f o.sound o.together o.started w.0 spec free, w.1)
+  pub created-goes : (spec : JobSpec) → create_fault spec f.jobs.process ≡ None → WorksOrIsDisturbed number planned counted before f → WorksOrIsDisturbed number planned counted before (with_jobs (with_process spec f.jobs) f)
+  created-goes spec free (inl w) = inl (created-work number planned counted f o.sound o.together o.started w.0 spec free, w.1)
   created-goes spec free (inr d) = inr (disturbed-created number counted before f spec o.sound d)
 
   -- where a control job is created
-  pub added-goes : (name : List ℕ) (named : List (List ℕ)) (auto : Bool) → control_fault name named f.jobs ≡ None → WorksOrIsDisturbed number counted before f
-      → WorksOrIsDisturbed number counted before (with_jobs (with_control name named auto f.jobs) f)
-  added-goes name named auto free (inl w) = inl (added-work number counted f o.sound o.together o.started w.0 name named auto free, w.1)
+  pub added-goes : (name : List ℕ) (named : List (List ℕ)) (auto : Bool) → control_fault name named f.jobs ≡ None → WorksOrIsDisturbed number planned counted before f
+      → WorksOrIsDisturbed number planned counted before (with_jobs (with_control name named auto f.jobs) f)
+  added-goes name named auto free (inl w) = inl (added-work number planned counted f o.sound o.together o.started w.0 name named auto free, w.1)
   added-goes name named auto free (inr d) = inr (disturbed-added number counted before f o.together o.started name named auto free d)
 
   -- where the order of the queue changes
-  pub headed-goes : (name : List ℕ) → WorksOrIsDisturbed number counted before f → WorksOrIsDisturbed number counted before (with_jobs (record f.jobs { control = headed name f.jobs.control }) f)
-  headed-goes name (inl w) = inl (headed-work number counted f o.sound o.together o.started w.0 name, w.1)
+  pub headed-goes : (name : List ℕ) → WorksOrIsDisturbed number planned counted before f → WorksOrIsDisturbed number planned counted before (with_jobs (record f.jobs { control = headed name f.jobs.control }) f)
+  headed-goes name (inl w) = inl (headed-work number planned counted f o.sound o.together o.started w.0 name, w.1)
   headed-goes name (inr d) = inr (disturbed-headed number counted before f name d)

@@ -1,12 +1,13 @@
 -- A control job that executes undisturbed on the floor of the tool: its substrates (after SEMI E40, SEMI E90 and SEMI E94; this tool's
 -- profile, tables 14 and 15, and moves). Which substrates are counted is settled as it starts.
-use Rattle.std.specs.Prelude.{◌≡◌, ◌⊎◌, ℕ, ◌+◌, ◌==◌, ◌≤◌, Bool, true, false, ◌&&◌, ◌||◌, List, [], ◌∷◌, find, Option, Some, None, is_some}
+use Rattle.std.specs.Prelude.{◌≡◌, ◌⊎◌, ℕ, ◌+◌, ◌==◌, ◌≤◌, Bool, true, false, ◌&&◌, ◌||◌, List, [], ◌∷◌, length, find, Option, Some, None, is_some}
 use Rattle.std.specs.List.{list_any}
 use Rattle.gem_tables.specs.Table.{firing, is_one_of}
 use Rattle.gem_tables.specs.declared.firing.Firing.{Firing}
 use Rattle.shop_floor.specs.Floor.{Floor}
+use Rattle.tool_tasks.specs.Routes.{most_steps}
 use Rattle.substrate.specs.Record.{is_at_source, is_needing}
-use Rattle.process_job.specs.Jobs.{JobBook, job_named, job_numbered}
+use Rattle.process_job.specs.Jobs.{JobBook, job_named, job_numbered, recipe_named}
 use Rattle.process_job.specs.declared.job.ProcessJob.{ProcessJob}
 use Rattle.process_job.specs.declared.record.JobState.{JobState}
 use Rattle.control_job.specs.Jobs.{job_numbered as control_numbered}
@@ -21,26 +22,14 @@ use Rattle.floor_model.specs.Floor.{ToolFloor, substrate_numbered}
 use Rattle.floor_model.specs.Jobs.{names_slot_of, can_join, is_here, job_of, is_stopping, is_aborting}
 use Rattle.floor_model.specs.Substrates.{reaches_verified}
 use Rattle.floor_model.specs.Machines.{floor_fired}
-use Rattle.floor_moves.specs.Floor as law
 use Rattle.floor_moves.specs.Floor.{is_done}
-use Rattle.place_laws.specs.Picture.{picture, of_substrate}
-use Rattle.place_laws.specs.Processed.{AreProcessed}
+use Rattle.floor_moves.specs.Valid.{HaveChambers}
+use Rattle.place_laws.specs.Picture.{picture, of_substrate, steps_in}
 use Rattle.place_laws.specs.Sound.{Sound}
-use Rattle.owed_laws.specs.Owed as owed
+use Rattle.owed_laws.specs.Owed.{owed_to, commands_of}
 use Rattle.owed_laws.specs.Undisturbed.{SubstratesStand, AreUnaligned}
 use Rattle.queue_laws.specs.Started.{is_queued, is_left_in, AreStarted}
 use Rattle.queue_laws.specs.Steers.{Steers, is_executing, goes_on}
-
--- ---- what is owed
-
--- The route that is planned for a substrate: one step, as each recipe has, in any chamber of the tool. How many Dones it takes is the same in
--- each.
-abbrev pub one_step : law.Floor → ℕ → List (List ℕ)
-one_step g n = g.chambers ∷ []
-
--- the Dones that are still to come for all those that are kept and counted
-abbrev pub owed_to : (ℕ → Bool) → law.Floor → ℕ
-owed_to counted g = owed.owed_to (one_step g) counted g
 
 -- ---- which process job takes a substrate
 
@@ -66,19 +55,27 @@ names_left (Some c) = c.left
 abbrev pub first_naming : ℕ → ToolFloor → Substrate → Option (List ℕ)
 first_naming number f s = find (names_slot f s) (names_left (control_numbered number f.jobs.control.jobs))
 
--- the processing steps of the recipe of a process job: one
-abbrev pub steps_by : JobBook → ProcessJob → ℕ
-steps_by b j = 1
+-- ---- which route it takes
 
--- those of a process job that was looked for
-abbrev pub steps_found : JobBook → Option ProcessJob → ℕ
-steps_found b None = 0
-steps_found b (Some j) = steps_by b j
+-- the route of a process job: the steps of its recipe, each with its chambers
+abbrev pub route_by : JobBook → ProcessJob → List (List ℕ)
+route_by b j = steps_in (recipe_named j.recipe b.recipes)
 
--- those of the process job whose name was found
-abbrev pub steps_named : JobBook → Option (List ℕ) → ℕ
-steps_named b None = 0
-steps_named b (Some name) = steps_found b (job_named name b.kept)
+-- that of a process job that was looked for; no step where there is none
+abbrev pub route_found : JobBook → Option ProcessJob → List (List ℕ)
+route_found b None = []
+route_found b (Some j) = route_by b j
+
+-- that of the process job whose name was found
+abbrev pub route_named : JobBook → Option (List ℕ) → List (List ℕ)
+route_named b None = []
+route_named b (Some name) = route_found b (job_named name b.kept)
+
+-- The routes of substrates in process jobs can be gone to their ends: each step that isn't done has a chamber of the tool, the steps rise,
+-- and there are six at the most.
+pub record HaveRoutes (f : ToolFloor) : Type 0 where
+  pub chambers : HaveChambers (picture f)
+  pub few : (n : ℕ) → (picture f).jobs.is_member n ≡ true → length ((picture f).jobs.route_of n) ≤ most_steps
 
 -- ---- as it starts
 
@@ -90,13 +87,14 @@ is_wanted number f s = (is_at_source s.states.transport && is_needing s.states.p
 abbrev pub counted_of : ℕ → ToolFloor → ℕ → Bool
 counted_of number f n = of_substrate false (is_wanted number f) f n
 
--- the processing steps that a substrate takes: those of the first process job that names its slot
-abbrev pub steps_of : ℕ → ToolFloor → ℕ → ℕ
-steps_of number f n = of_substrate 0 (λ s. steps_named f.jobs.process (first_naming number f s)) f n
+-- the route that is planned for a substrate: that of the first process job that names its slot
+abbrev pub planned_of : ℕ → ToolFloor → ℕ → List (List ℕ)
+planned_of number f n = of_substrate [] (λ s. route_named f.jobs.process (first_naming number f s)) f n
 
--- the commands that all counted substrates take, which are as many Dones
+-- The commands that all counted substrates take, which are as many Dones: for each five, for its way there and back, and three for each
+-- step of the route that is planned for it.
 abbrev pub total : ℕ → ToolFloor → ℕ
-total number f = owed.commands_of (steps_of number f) (counted_of number f) (picture f)
+total number f = commands_of (λ n. length (planned_of number f n)) (counted_of number f) (picture f)
 
 -- the material of each process job that is left in it is here
 abbrev pub IsMaterialHere : ℕ → ToolFloor → Type 0
@@ -112,30 +110,33 @@ AreInKeptJobs f = (n : ℕ) (s : Substrate) → substrate_numbered n f.substrate
 
 -- ---- while it executes
 
--- a substrate is in a process job, the first that is left in the control job of a number and names its slot
-abbrev pub IsInJob : ℕ → Substrate → ToolFloor → Type 0
-IsInJob number s f = (j : ProcessJob) × (job_of s f.jobs ≡ Some j) × (first_naming number f s ≡ Some j.id)
+-- a substrate is in a process job, the first that is left in the control job of a number and names its slot, which has this route
+abbrev pub IsInJob : ℕ → List (List ℕ) → Substrate → ToolFloor → Type 0
+IsInJob number route s f =
+    (j : ProcessJob) × (job_of s f.jobs ≡ Some j) × (first_naming number f s ≡ Some j.id) × (route_by f.jobs.process j ≡ route)
 
--- a substrate waits for a process job, the first that is left in the control job of a number and names its slot, which is QUEUED; and
--- can join it
-pub record Waits (number : ℕ) (s : Substrate) (f : ToolFloor) : Type 0 where
+-- a substrate waits for a process job, the first that is left in the control job of a number and names its slot, which has this route and
+-- is QUEUED; and can join it
+pub record Waits (number : ℕ) (route : List (List ℕ)) (s : Substrate) (f : ToolFloor) : Type 0 where
   pub at : ℕ
   pub job : ProcessJob
   pub kept : job_numbered at f.jobs.process.kept ≡ Some job
   pub left : is_left_in number job.id f.jobs ≡ true
   pub first : first_naming number f s ≡ Some job.id
+  pub goes_by : route_by f.jobs.process job ≡ route
   pub queued : is_queued job.states.state ≡ true
   pub joins : can_join job f.shop s ≡ true
 
 -- The control job of a number executes, and nothing disturbed it: the material of the process jobs that are left in it is here; each
 -- substrate in a job is counted; each that is counted is finished and in its slot or without a place, or it is in the first job that is
--- left and names its slot, or it waits for that; what such a job can still take is counted; and the substrates stand as they do undisturbed.
-pub record Executes (number : ℕ) (counted : ℕ → Bool) (f : ToolFloor) : Type 0 where
+-- left and names its slot, or it waits for that, which has the route that is planned for it; what such a job can still take is counted; and
+-- the substrates stand as they do undisturbed.
+pub record Executes (number : ℕ) (planned : ℕ → List (List ℕ)) (counted : ℕ → Bool) (f : ToolFloor) : Type 0 where
   pub steers : Steers number f.jobs
   pub here : IsMaterialHere number f
   pub members : (n : ℕ) → (picture f).jobs.is_member n ≡ true → counted n ≡ true
   pub stands : (n : ℕ) (s : Substrate) → substrate_numbered n f.substrates ≡ Some s → counted n ≡ true
-      → (is_done n (picture f) ≡ true) ⊎ (IsInJob number s f ⊎ Waits number s f)
+      → (is_done n (picture f) ≡ true) ⊎ (IsInJob number (planned n) s f ⊎ Waits number (planned n) s f)
   pub all : (n k : ℕ) (s : Substrate) (j : ProcessJob) → substrate_numbered n f.substrates ≡ Some s
       → job_numbered k f.jobs.process.kept ≡ Some j → is_left_in number j.id f.jobs ≡ true → can_join j f.shop s ≡ true → counted n ≡ true
   pub substrates : SubstratesStand counted (picture f)
@@ -149,14 +150,15 @@ is_registration x = (x.row.table == 9) && reaches_verified x.row.row
 -- ---- what a row does
 
 -- Behind a row the control job executes on, and as much is owed; or the row is its completion, and none is owed.
-abbrev pub GoesOnOrCompletes : ℕ → (ℕ → Bool) → ToolFloor → Firing → Type 0
-GoesOnOrCompletes number counted f x =
-    (Executes number counted (floor_fired x f) × (owed_to counted (picture (floor_fired x f)) ≡ owed_to counted (picture f)))
-    ⊎ ((x ≡ firing 15 number 8) × (owed_to counted (picture f) ≡ 0))
+abbrev pub GoesOnOrCompletes : ℕ → (ℕ → List (List ℕ)) → (ℕ → Bool) → ToolFloor → Firing → Type 0
+GoesOnOrCompletes number planned counted f x =
+    (Executes number planned counted (floor_fired x f) × (owed_to planned counted (picture (floor_fired x f)) ≡ owed_to planned counted (picture f)))
+    ⊎ ((x ≡ firing 15 number 8) × (owed_to planned counted (picture f) ≡ 0))
 
 -- behind a Done it executes on, and one less is owed
-abbrev pub TakesOneOff : ℕ → (ℕ → Bool) → ToolFloor → ToolFloor → Type 0
-TakesOneOff number counted f g = Executes number counted g × (owed_to counted (picture g) + 1 ≡ owed_to counted (picture f))
+abbrev pub TakesOneOff : ℕ → (ℕ → List (List ℕ)) → (ℕ → Bool) → ToolFloor → ToolFloor → Type 0
+TakesOneOff number planned counted f g =
+    Executes number planned counted g × (owed_to planned counted (picture g) + 1 ≡ owed_to planned counted (picture f))
 
 -- ---- what holds on the floor at every moment, but between two rows that one input fires
 
@@ -166,7 +168,6 @@ pub record InOrder (f : ToolFloor) : Type 0 where
   pub started : AreStarted f.jobs
   pub unaligned : AreUnaligned (picture f)
   pub in_jobs : AreInKeptJobs f
-  pub processed : AreProcessed f.modules f.substrates
 
 -- ---- what disturbs it
 
@@ -205,12 +206,12 @@ pub record IsAtWork (number : ℕ) (before w : Jobs) : Type 0 where
   pub were : (n : ℕ) (j : ProcessJob) → job_numbered n w.process.kept ≡ Some j → is_left_in number j.id w ≡ true → WasLeft number before n
 
 -- It is at work, and for the rest all is as where it executes.
-pub record AtWork (number : ℕ) (counted : ℕ → Bool) (before : Jobs) (f : ToolFloor) : Type 0 where
+pub record AtWork (number : ℕ) (planned : ℕ → List (List ℕ)) (counted : ℕ → Bool) (before : Jobs) (f : ToolFloor) : Type 0 where
   pub steers : IsAtWork number before f.jobs
   pub here : IsMaterialHere number f
   pub members : (n : ℕ) → (picture f).jobs.is_member n ≡ true → counted n ≡ true
   pub stands : (n : ℕ) (s : Substrate) → substrate_numbered n f.substrates ≡ Some s → counted n ≡ true
-      → (is_done n (picture f) ≡ true) ⊎ (IsInJob number s f ⊎ Waits number s f)
+      → (is_done n (picture f) ≡ true) ⊎ (IsInJob number (planned n) s f ⊎ Waits number (planned n) s f)
   pub all : (n k : ℕ) (s : Substrate) (j : ProcessJob) → substrate_numbered n f.substrates ≡ Some s
       → job_numbered k f.jobs.process.kept ≡ Some j → is_left_in number j.id f.jobs ≡ true → can_join j f.shop s ≡ true → counted n ≡ true
   pub substrates : SubstratesStand counted (picture f)
@@ -226,9 +227,10 @@ pub data Disturbed (number : ℕ) (counted : ℕ → Bool) (before f : ToolFloor
       → ((picture f).processing n == (picture before).processing n) ≡ false → Disturbed number counted before f
 
 -- It is at work and as much is owed as as the input came, or it is disturbed.
-abbrev pub WorksOrIsDisturbed : ℕ → (ℕ → Bool) → ToolFloor → ToolFloor → Type 0
-WorksOrIsDisturbed number counted before f =
-    (AtWork number counted before.jobs f × (owed_to counted (picture f) ≡ owed_to counted (picture before))) ⊎ Disturbed number counted before f
+abbrev pub WorksOrIsDisturbed : ℕ → (ℕ → List (List ℕ)) → (ℕ → Bool) → ToolFloor → ToolFloor → Type 0
+WorksOrIsDisturbed number planned counted before f =
+    (AtWork number planned counted before.jobs f × (owed_to planned counted (picture f) ≡ owed_to planned counted (picture before)))
+    ⊎ Disturbed number counted before f
 
 -- ---- rows that words fire
 

@@ -101,8 +101,8 @@ fn substrate_row(table: Table, row: u8) -> &'static str {
         (_, 3) => "IN PROCESS to PROCESSED",
         (_, 4) => "IN PROCESS to ABORTED",
         (_, 5) => "NEEDS PROCESSING to SKIPPED",
-        (_, 6) => "NEEDS PROCESSING to STOPPED",
-        (_, 7) => "NEEDS PROCESSING to ABORTED",
+        (_, 6) => "NEEDS PROCESSING or IN PROCESS to STOPPED",
+        (_, 7) => "NEEDS PROCESSING or IN PROCESS to ABORTED",
         (_, _) => "to LOST",
     }
 }

@@ -1,4 +1,4 @@
--- The lines that are said to a durable spool (this tool's profile).
+-- The lines of the command `notes`, as the profile prints them (this tool's profile, durable spool).
 use Rattle.std.specs.Prelude.{ℕ, Bool, true, false, codes, if◌then◌else◌, List}
 use Rattle.line_grammar.specs.Words.{number, hex}
 use Rattle.line_grammar.specs.Grammar.{Grammar, gives, anything, last, literal, word, says, ◌or◌, ◌>>=◌, ◌>>◌}

@@ -1,4 +1,4 @@
--- How notes are printed (this tool's profile).
+-- How notes are printed (this tool's profile, durable spool).
 use Rattle.std.specs.Prelude.{ℕ, List, ◌++◌, codes, Option, Some, None}
 use Rattle.std.specs.List.{flat_map}
 use Rattle.std.specs.Fmt.{decimal}

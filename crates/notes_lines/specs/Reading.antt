@@ -1,4 +1,4 @@
--- What a line says to a durable spool, or the place at which it is refused (this tool's profile).
+-- What a line says to a durable spool, or the place at which it is refused (this tool's profile, durable spool).
 use Rattle.std.specs.Prelude.{ℕ, ◌+◌, ◌*◌, ◌-◌, ◌^◌, ◌≤◌, ◌&&◌, Bool, nat_lt, nat_le, if◌then◌else◌, List, length, take, drop, Result, Ok, Err}
 use Rattle.line_grammar.specs.Reading.{read, line_bytes, from_space, ◌>>=◌}
 use Rattle.spool.specs.declared.note.Note.{Note}

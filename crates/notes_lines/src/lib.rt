@@ -1,7 +1,7 @@
-//! The lines that are said to a durable spool: what each says, where a line that says nothing leaves the grammar, and how notes are
-//! printed.
+//! The lines of the command `notes`: what a line says to a durable spool, where a line that says nothing leaves the grammar, and how notes are
+//! printed (this tool's profile, durable spool).
 //!
-//! It holds no spool and reads no source. Begin with `specs/Lines.antt`, the lines as the profile prints them,
+//! It holds no spool and reads no source: `notes_top` does. Begin with `specs/Lines.antt`, the lines as the profile prints them,
 //! and with `read_spool_line` and `print_note`.
 #![tactic(auto)]
 

@@ -22,7 +22,7 @@ const TEXT_DIGITS: usize = 174_000;
 /// What a line says, without its line feed, by whether the spool is open: a `format` then says nothing. `Place` comes exactly where it
 /// leaves these lines, with the first byte at which none goes on, counted from 0, or with its length where only more was wanted. A size
 /// that no disk has is refused at its first byte, and a text at its first digit behind 174,000. A line of over 600,000 bytes is
-/// refused at 600,000, whatever it holds (this tool's profile).
+/// refused at 600,000, whatever it holds (this tool's profile, durable spool).
 #[tactic(auto, unfolding(crate::specs::Reading::spool_line_of))]
 pub fn read_spool_line(alloc: Global, line: &[u8], is_open: bool) -> Result<SpoolLine, LineFault>
     ensures says { Gives result (spool_line_of is_open line.now) }

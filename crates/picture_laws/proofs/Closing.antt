@@ -1,15 +1,17 @@
 -- A command that is closed, and a module that goes down or comes up, does to the floor by numbers what the laws have.
-use Rattle.std.proofs.Common.{◌≡◌, ℕ, ◌==◌, Bool, true, false, if◌then◌else◌, Option, Some, option_map, refl, sym, ◌∙◌, ap, subst}
+use Rattle.std.proofs.Common.{◌≡◌, ℕ, ◌+◌, ◌==◌, nat_lt, Bool, true, false, if◌then◌else◌, Option, Some, option_map, refl, sym, ◌∙◌, ap, subst}
 use Rattle.std.proofs.lemmas.Bool.Decides.{Decides-eqb}
+use Rattle.tool_tasks.specs.Routes.{most_steps}
 use Rattle.robot_moves.specs.declared.module.Module.{Module}
 use Rattle.robot_moves.specs.Modules.{module_at, change_module}
 use Rattle.floor_model.specs.declared.tracked.Substrate.{Substrate}
 use Rattle.floor_model.specs.Floor.{ToolFloor, with_module, substrate_numbered, change_numbered}
-use Rattle.floor_model.specs.Modules.{aligned}
+use Rattle.floor_model.specs.Modules.{aligned, one_more, stepped}
 use Rattle.floor_moves.specs.Floor.{Module as ByNumber, set}
 use Rattle.floor_moves.specs.Effects.{turned}
 use Rattle.floor_moves.specs.Agree.{Agree}
-use Rattle.place_laws.specs.Picture.{picture, module_of}
+use Rattle.place_laws.specs.Picture.{picture, module_of, of_one}
+use Rattle.place_laws.proofs.Routes.{steps_is}
 use Rattle.floor_moves.proofs.Agreeing.{alike_same}
 use Rattle.picture_laws.proofs.JobViews.{substrates_alike}
 use Rattle.picture_laws.proofs.Columns.{numbers_same, says_same, says_new}
@@ -60,7 +62,7 @@ module _ (m : ℕ) (change : Module → Module) (x : Module) (state : ByNumber) 
     place_of = λ k. refl;
     processing = λ k _. says_same n aligned (λ s. refl) 0 _ (λ s. refl) k f.substrates;
     is_aligned = λ k _. says_new n aligned (λ s. refl) false _ s k f.substrates found;
-    steps_of = λ k _ _. refl;
+    steps_of = λ k _ _. says_same n aligned (λ s. refl) 0 _ (λ s. refl) k f.substrates;
     carriers = refl;
     present_at = λ c. refl;
     is_verified = λ c _. refl;
@@ -70,3 +72,29 @@ module _ (m : ℕ) (change : Module → Module) (x : Module) (state : ByNumber) 
     equipment = modules_behind here is;
     next_command = refl;
   }
+
+  -- what is done by a Process and goes on has the step done, and its module changes
+  pub stepping_agrees : (n : ℕ) (s : Substrate) → substrate_numbered n f.substrates ≡ Some s → nat_lt s.steps most_steps ≡ true → module_at m f.modules ≡ Some x → module_of (Some (change x)) f.places ≡ state
+      → Agree (record (picture f) { steps_of = set n ((picture f).steps_of n + 1) (picture f).steps_of; equipment = set m state (picture f).equipment })
+      (picture (with_module m change (record f { substrates = change_numbered n stepped f.substrates })))
+  stepping_agrees n s found few here is = record {
+    substrates = numbers_same n stepped (λ s. refl) f.substrates;
+    next_substrate = refl;
+    carrier_of = λ k _. says_same n stepped (λ s. refl) 0 _ (λ s. refl) k f.substrates;
+    port_of = λ k _. says_same n stepped (λ s. refl) 0 _ (λ s. refl) k f.substrates;
+    slot_of = λ k _. says_same n stepped (λ s. refl) 0 _ (λ s. refl) k f.substrates;
+    place_of = λ k. refl;
+    processing = λ k _. says_same n stepped (λ s. refl) 0 _ (λ s. refl) k f.substrates;
+    is_aligned = λ k _. says_same n stepped (λ s. refl) false _ (λ s. refl) k f.substrates;
+    steps_of = λ k _ _. says_new n stepped (λ s. refl) 0 _ s k f.substrates found ∙ ap (λ (i : ℕ). if k == n then i else of_one 0 (λ (t : Substrate). t.steps) (substrate_numbered k f.substrates)) one_more_done;
+    carriers = refl;
+    present_at = λ c. refl;
+    is_verified = λ c _. refl;
+    access = λ c _. refl;
+    jobs = substrates_alike _ f.jobs f.shop.carriers f.substrates _ (λ B else_ says k. says_same n stepped (λ s. refl) else_ (λ s. says s.job) (λ s. refl) k f.substrates);
+    chambers = refl;
+    equipment = modules_behind here is;
+    next_command = refl;
+  } where
+    one_more_done : one_more s.steps ≡ (picture f).steps_of n + 1
+    one_more_done = ap (λ (b : Bool). if b then s.steps + 1 else s.steps) few ∙ ap (λ (i : ℕ). i + 1) (sym (steps_is f n s found))

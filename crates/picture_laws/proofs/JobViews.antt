@@ -1,5 +1,5 @@
 -- What process jobs say stays where substrates and carriers change in nothing that they look at.
-use Rattle.std.proofs.Common.{◌≡◌, ℕ, ◌==◌, Bool, true, false, if◌then◌else◌, List, [], ◌∷◌, ◌++◌, map, Option, Some, None, refl, sym, ◌∙◌, ap}
+use Rattle.std.proofs.Common.{◌≡◌, ℕ, Bool, true, false, List, [], Option, Some, refl}
 use Rattle.carrier.specs.declared.carrier.Carrier.{Carrier}
 use Rattle.carrier.specs.Carriers.{carrier_numbered}
 use Rattle.process_job.specs.Jobs.{job_numbered, recipe_named}
@@ -9,7 +9,7 @@ use Rattle.floor_model.specs.declared.tracked.Substrate.{Substrate}
 use Rattle.floor_model.specs.Floor.{substrate_numbered}
 use Rattle.floor_model.specs.Jobs.{is_any_of_carrier, is_processing, is_stopping, is_aborting}
 use Rattle.floor_moves.specs.Agree.{SayAlike}
-use Rattle.place_laws.specs.Picture.{of_one, of_job, is_complete, chambers_in, job_view}
+use Rattle.place_laws.specs.Picture.{of_one, is_complete, steps_in, job_view}
 
 -- what is said of substrates by their jobs alone is the same
 abbrev pub SameJobs : List Substrate → List Substrate → Type 1
@@ -27,7 +27,7 @@ module _ (at : ℕ → Option ℕ) (w : Jobs) where
     is_stopping = λ n. same Bool false (said_of false (λ j. is_stopping j.states.state)) n;
     is_aborting = λ n. same Bool false (said_of false (λ j. is_aborting j.states.state)) n;
     is_complete = λ n. same Bool false (said_of false (λ j. is_complete j.states.state)) n;
-    route_of = λ n. ap (λ (step : List ℕ). step ∷ []) (same (List ℕ) [] (said_of [] (λ j. chambers_in (recipe_named j.recipe w.process.recipes))) n);
+    route_of = λ n. same (List (List ℕ)) [] (said_of [] (λ j. steps_in (recipe_named j.recipe w.process.recipes))) n;
     names_carrier = λ c p here. refl;
     is_marked = λ c p here. refl;
   }

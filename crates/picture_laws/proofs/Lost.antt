@@ -9,11 +9,12 @@ use Rattle.substrate.specs.declared.record.Processing.TheVariants as processing
 use Rattle.substrate.specs.declared.registered.Registered.{Registered}
 use Rattle.floor_model.specs.declared.tracked.Substrate.{Substrate}
 use Rattle.floor_model.specs.Floor.{ToolFloor, substrate_numbered}
-use Rattle.floor_model.specs.Machines.{with_moved, floor_fired}
+use Rattle.floor_model.specs.Machines.{substrate_moves, with_moved, floor_fired}
 use Rattle.floor_model.specs.Substrates.{removed_where}
 use Rattle.floor_moves.specs.Effects.{lost}
 use Rattle.floor_moves.specs.Agree.{Agree}
 use Rattle.place_laws.specs.Picture.{picture, module_of, of_one}
+use Rattle.picture_laws.proofs.Columns.{says_same}
 use Rattle.picture_laws.proofs.Rows.{processing_agrees}
 use Rattle.picture_laws.proofs.Moving.{among}
 use Rattle.picture_laws.proofs.Losing.{taken_among}
@@ -37,7 +38,7 @@ module _ (n : ℕ) (s : Substrate) (found : Registered) (f : ToolFloor) where
   behind_agrees : ArePlaces f.places → substrate_numbered n f.substrates ≡ Some s → substrate_named s.sub f.places.held ≡ Some found → found.number ≡ n
       → ((m : ℕ) → module_of (module_at m f.modules) (removed s.sub f.places) ≡ module_of (module_at m f.modules) f.places) → Agree (lost n (picture f)) (picture behind)
   behind_agrees places here there is modules =
-      let a = processing_agrees f n 8 s here in
+      let a = processing_agrees f n 8 s here (λ e. absurd (cc)) in
       record {
         substrates = a.substrates;
         next_substrate = refl;
@@ -47,7 +48,7 @@ module _ (n : ℕ) (s : Substrate) (found : Registered) (f : ToolFloor) where
         place_of = λ k. taken_among s.sub 0 f.places.given f.places.held found places.named_apart places.numbered there k ∙ ap (λ (m : ℕ). if k == m then None else among f.places.held k) is;
         processing = λ k e. a.processing k e ∙ ap (λ (x : ℕ). if k == n then x else of_one 0 (λ (t : Substrate). processing_number t.states.processing) (substrate_numbered k f.substrates)) (is_lost s.states.processing);
         is_aligned = a.is_aligned;
-        steps_of = λ k _ _. refl;
+        steps_of = λ k _ _. says_same n (substrate_moves 13 8) (λ s. refl) 0 _ (λ s. refl) k f.substrates;
         carriers = refl;
         present_at = λ c. refl;
         is_verified = λ c _. refl;

@@ -14,11 +14,10 @@ use Rattle.floor_model.specs.Substrates.{first_substrate}
 use Rattle.floor_moves.specs.Floor.{Loc}
 use Rattle.floor_moves.specs.Carriers.{registered}
 use Rattle.floor_moves.specs.Agree.{Agree}
-use Rattle.floor_moves.proofs.Maps.{set_both}
 use Rattle.process_job.specs.Jobs.{job_numbered, recipe_named}
 use Rattle.process_job.specs.declared.job.ProcessJob.{ProcessJob}
 use Rattle.floor_model.specs.Jobs.{is_processing, is_stopping, is_aborting}
-use Rattle.place_laws.specs.Picture.{picture, loc_of, place_in, module_of, of_one, of_job, is_complete, chambers_in}
+use Rattle.place_laws.specs.Picture.{picture, loc_of, place_in, module_of, of_one, of_job, is_complete, steps_in}
 use Rattle.picture_laws.proofs.Columns.{unknown_none}
 use Rattle.place_laws.proofs.Appended.{numbers_on, says_on}
 
@@ -56,7 +55,7 @@ module _ (sub : List ℕ) (carrier : ℕ) (port : PortNo) (slot : SlotNo) (f : T
     place_of = λ k. place k;
     processing = λ k _. says_on number_of 0 _ f.substrates new _ refl none k;
     is_aligned = λ k _. says_on number_of false _ f.substrates new _ refl none k;
-    steps_of = λ k _ _. set_both (f.places.given + 1) k 0 (λ n. 0) (λ i. 0 ≡ i) (λ same. refl) (λ other. refl);
+    steps_of = λ k _ _. says_on number_of 0 _ f.substrates new _ refl none k;
     carriers = refl;
     present_at = λ c. refl;
     is_verified = λ c _. refl;
@@ -67,7 +66,7 @@ module _ (sub : List ℕ) (carrier : ℕ) (port : PortNo) (slot : SlotNo) (f : T
       is_stopping = λ k. in_none false (λ j. is_stopping j.states.state) k;
       is_aborting = λ k. in_none false (λ j. is_aborting j.states.state) k;
       is_complete = λ k. in_none false (λ j. is_complete j.states.state) k;
-      route_of = λ k. ap (λ (step : List ℕ). step ∷ []) (in_none [] (λ j. chambers_in (recipe_named j.recipe f.jobs.process.recipes)) k);
+      route_of = λ k. in_none [] (λ j. steps_in (recipe_named j.recipe f.jobs.process.recipes)) k;
       names_carrier = λ c p here. refl;
       is_marked = λ c p here. refl;
     };

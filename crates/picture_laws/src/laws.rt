@@ -1,6 +1,6 @@
 //! Laws of the floor of the tool by numbers, for proofs to cite. Each function is empty: what it ensures holds of the definitions.
 
-ghost use Rattle.std.specs.Prelude.{◌≡◌, ℕ, ◌+◌, Bool, true, false, List, [], ◌∷◌, ◌++◌, map, Some, None};
+ghost use Rattle.std.specs.Prelude.{◌≡◌, ℕ, ◌+◌, ◌==◌, nat_lt, Bool, true, false, List, [], ◌∷◌, ◌++◌, map, Some, None};
 ghost use Rattle.gem_tables.specs.Table.{firing, after, is_one_of};
 ghost use Rattle.gem_ids.specs.declared.numbers.LocId.TheVariants.{Slot};
 ghost use Rattle.gem_ids.specs.declared.numbers.PortNo.{PortNo};
@@ -18,19 +18,21 @@ ghost use Rattle.robot_moves.specs.declared.module.Module.{Module};
 ghost use Rattle.robot_moves.specs.declared.module.Module.TheVariants.{Idle};
 ghost use Rattle.robot_moves.specs.declared.view.Move.{Move};
 ghost use Rattle.tool_tasks.specs.declared.recipes.Recipe.{Recipe};
+ghost use Rattle.tool_tasks.specs.Routes.{most_steps};
 ghost use Rattle.substrate.specs.Places.{registered as registered_there, ArePlaces, substrate_named, moved, removed};
 ghost use Rattle.gem_ids.specs.declared.numbers.LocId.{LocId};
 ghost use Rattle.substrate.specs.declared.registered.Registered.{Registered};
 ghost use Rattle.substrate.specs.Tables.{processing_number, processing_table};
+ghost use Rattle.substrate.specs.declared.record.Processing.TheVariants.{InProcess};
 ghost use Rattle.substrate.specs.declared.record.LocationRecord.{LocationRecord};
 ghost use Rattle.floor_model.specs.declared.tracked.Substrate.{Substrate};
 ghost use Rattle.floor_model.specs.Floor.{ToolFloor, with_shop, opening, with_module, substrate_numbered, change_numbered, number_of};
 ghost use Rattle.floor_model.specs.Machines.{with_moved, floor_fired};
-ghost use Rattle.floor_model.specs.Modules.{aligned, issued as given_to};
+ghost use Rattle.floor_model.specs.Modules.{aligned, stepped, issued as given_to};
 ghost use Rattle.floor_model.specs.Substrates.{first_substrate};
 ghost use Rattle.floor_moves.specs.Carriers.{created, arrived, verified, registered};
-ghost use Rattle.floor_moves.specs.Floor.{Module as ByNumber, set};
-ghost use Rattle.floor_moves.specs.Effects.{accessed, worked, lost, issued, turned, moved as moved_by_numbers};
+ghost use Rattle.floor_moves.specs.Floor.{Module as ByNumber, idle, set};
+ghost use Rattle.floor_moves.specs.Effects.{accessed, worked, processed, lost, issued, turned, moved as moved_by_numbers, stepped as stepped_by_numbers};
 ghost use Rattle.floor_moves.specs.Agree.{Agree};
 ghost use Rattle.floor_moves.specs.Valid.{Valid};
 ghost use Rattle.place_laws.specs.Picture.{picture, loc_of, module_of, task_of};
@@ -41,14 +43,17 @@ pub fn it_holds_as_the_tool_begins()
 {}
 
 /// Rows of one location or substrate do to the floor by numbers what the laws of the moves have: those of tables 11 and 12 leave all
-/// that holds, and one of table 13 gives the substrate the state behind it.
+/// that holds, and one of table 13 gives the substrate the state behind it; by row 3 one that is IN PROCESS is PROCESSED, and the last
+/// step of its route is done.
 pub fn rows_of_one_substrate_do_what_the_laws_have()
     ensures location { (f : ToolFloor) (locations : List LocationRecord) → Valid (picture f)
         → Valid (picture (record f { locations = locations })) }
     ensures transport { (f : ToolFloor) (n row : ℕ) → Valid (picture f) → Valid (picture (with_moved 12 row n f)) }
-    ensures processing { (f : ToolFloor) (n row : ℕ) (s : Substrate) → substrate_numbered n f.substrates ≡ Some s
+    ensures processing { (f : ToolFloor) (n row : ℕ) (s : Substrate) → substrate_numbered n f.substrates ≡ Some s → (row == 3) ≡ false
         → Agree (worked n (processing_number (after processing_number processing_table row s.states.processing)) (picture f))
         (picture (with_moved 13 row n f)) }
+    ensures last { (f : ToolFloor) (n : ℕ) (s : Substrate) → substrate_numbered n f.substrates ≡ Some s
+        → s.states.processing ≡ InProcess → Agree (processed n (picture f)) (picture (with_moved 13 3 n f)) }
 {}
 
 /// A registration does to the floor by numbers what the laws of the moves have: where no substrate has its number yet, no process job
@@ -88,6 +93,15 @@ pub fn what_is_aligned_is_aligned_by_numbers()
         → module_at m f.modules ≡ Some x → module_of (Some (change x)) f.places ≡ state
         → Agree (record (picture f) { is_aligned = set n true (picture f).is_aligned; equipment = set m state (picture f).equipment })
         (picture (with_module m change (record f { substrates = change_numbered n aligned f.substrates }))) }
+{}
+
+/// What is done by a Process, and goes on to a further step, has one step more done in the floor by numbers, and its module is Idle.
+pub fn a_step_that_is_done_is_counted_by_numbers()
+    ensures { (m n : ℕ) (change : Module → Module) (x : Module) (s : Substrate) (f : ToolFloor)
+        → substrate_numbered n f.substrates ≡ Some s → nat_lt s.steps most_steps ≡ true
+        → module_at m f.modules ≡ Some x → module_of (Some (change x)) f.places ≡ idle
+        → Agree (stepped_by_numbers n m (picture f))
+        (picture (with_module m change (record f { substrates = change_numbered n stepped f.substrates }))) }
 {}
 
 /// What is done by a Pick or a Place moves in the floor by numbers, where it has a place, and its module is Idle.

@@ -1,5 +1,5 @@
 -- The list of a set of chambers has those of 1 to 8 that the set has.
-use Rattle.std.proofs.Common.{◌≡◌, ◌+◌, ◌<◌, ◌≤◌, ◌==◌, ℕ, zero, suc, nat_le, nat_lt, Bool, true, false, ◌&&◌, ◌||◌, cond, List, [], ◌∷◌, refl, sym, ap, ◌∙◌, arith}
+use Rattle.std.proofs.Common.{◌≡◌, ◌+◌, ◌≤◌, ◌==◌, ℕ, zero, suc, nat_le, nat_lt, Bool, true, false, ◌&&◌, ◌||◌, cond, List, [], ◌∷◌, refl, sym, ap, ◌∙◌, arith}
 use Rattle.std.specs.List.{filter, range_with_len}
 use Rattle.std.proofs.Math.Bool.{and-false}
 use Rattle.std.proofs.lemmas.Bool.{and_parts, and_from}
@@ -32,17 +32,19 @@ IsChosen set c = record {
   most : c ≤ 8;
 }
 
-listed : (set c : ℕ) → is_one_of (chamber_list set) c ≡ (nat_le 1 c && nat_lt c 9 && has_chamber set c)
-listed set c = one_of_filter (has_chamber set) (range_with_len 1 8) c ∙ ap (λ (b : Bool). b && has_chamber set c) (one_of_range 1 8 c)
+pub listed : (set c : ℕ) → is_one_of (chamber_list set) c ≡ ((nat_le 1 c && nat_le c 8) && has_chamber set c)
+listed set c = one_of_filter (has_chamber set) (range_with_len 1 8) c ∙ ap (λ (b : Bool). b && has_chamber set c) (one_of_range 1 8 c ∙ up_to_8) where
+  up_to_8 : (nat_le 1 c && nat_lt c (1 + 8)) ≡ (nat_le 1 c && nat_le c 8)
+  up_to_8 = grind (arith, nat_tests)
 
 pub is_listed : (set c : ℕ) → IsChosen set c → is_one_of (chamber_list set) c ≡ true
 is_listed set c h =
     let least = h.least in
     let most = h.most in
-    listed set c ∙ and_from (nat_le 1 c && nat_lt c 9) (has_chamber set c) (grind (arith, nat_tests, least, most)) h.has
+    listed set c ∙ and_from (nat_le 1 c && nat_le c 8) (has_chamber set c) (grind (arith, nat_tests, least, most)) h.has
 
 pub is_chosen : (set c : ℕ) → is_one_of (chamber_list set) c ≡ true → IsChosen set c
 is_chosen set c e =
-    let parts = and_parts (nat_le 1 c && nat_lt c 9) (has_chamber set c) (sym (listed set c) ∙ e) in
+    let parts = and_parts (nat_le 1 c && nat_le c 8) (has_chamber set c) (sym (listed set c) ∙ e) in
     let lies = parts.0 in
     record { has = parts.1; least = grind (arith, nat_tests, lies); most = grind (arith, nat_tests, lies) }

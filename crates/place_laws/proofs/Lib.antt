@@ -21,4 +21,4 @@ pub mod UnloadPorts
 pub mod UnloadRows
 pub mod UnloadRequests
 pub mod Names
-pub mod OneStep
+pub mod Routes

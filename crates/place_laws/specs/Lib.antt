@@ -2,4 +2,3 @@ pub mod Picture
 pub mod Ports
 pub mod Standing
 pub mod Sound
-pub mod Processed

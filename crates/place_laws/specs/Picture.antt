@@ -1,7 +1,7 @@
 -- The floor of the tool by numbers, as the laws of the moves read it (after SEMI E87 and E90; this tool's profile, carriers, substrates
 -- and moves). A substrate, a carrier and a module go by their numbers; what a column says of a number that is none counts for
 -- nothing, and is the least there is.
-use Rattle.std.specs.Prelude.{ℕ, zero, suc, ◌+◌, ◌==◌, Bool, true, false, if◌then◌else◌, List, [], ◌∷◌, ◌++◌, find, map, Option, Some, None, option_map}
+use Rattle.std.specs.Prelude.{ℕ, zero, suc, ◌+◌, ◌==◌, Bool, true, false, if◌then◌else◌, List, [], ◌∷◌, find, map, Option, Some, None, option_map}
 use Rattle.gem_ids.specs.declared.numbers.LocId.{LocId}
 use Rattle.gem_ids.specs.declared.numbers.LocId.TheVariants.{Slot, Aligner, Arm, Chamber}
 use Rattle.gem_ids.specs.declared.numbers.PortNo.{PortNo}
@@ -20,7 +20,7 @@ use Rattle.floor_model.specs.declared.tracked.Substrate.{Substrate}
 use Rattle.floor_model.specs.Floor.{ToolFloor, substrate_numbered, number_of}
 use Rattle.floor_model.specs.Modules.{number_named}
 use Rattle.floor_model.specs.Jobs.{job_of, is_any_of_carrier, is_processing, is_stopping, is_aborting}
-use Rattle.floor_model.specs.Views.{chambers_of}
+use Rattle.floor_model.specs.Views.{route_of}
 use Rattle.tool_tasks.specs.Chambers.{chamber_list}
 use Rattle.tool_tasks.specs.declared.recipes.Recipe.{Recipe}
 use Rattle.process_job.specs.Jobs.{recipe_named}
@@ -107,9 +107,14 @@ numbers_from n (suc count) = n ∷ numbers_from (n + 1) count
 
 -- ---- jobs
 
--- the chambers of the first step of a recipe, where there is one
-abbrev pub chambers_in : Option Recipe → List ℕ
-chambers_in o = chamber_list (chambers_of o)
+-- A route has a step. No configuration has a recipe without one; what is unknown counts as one step that no chamber can do.
+abbrev pub some_steps : List (List ℕ) → List (List ℕ)
+some_steps [] = [] ∷ []
+some_steps (step ∷ steps) = step ∷ steps
+
+-- the chambers of each step of the route of a recipe
+abbrev pub steps_in : Option Recipe → List (List ℕ)
+steps_in o = some_steps (map chamber_list (route_of o))
 
 -- what is said of the process job of a substrate; else this, where it is in none
 abbrev pub of_job : {B : Type 0} → B → (ProcessJob → B) → Jobs → Substrate → B
@@ -120,7 +125,7 @@ abbrev pub is_complete : JobState → Bool
 is_complete Complete = true
 is_complete _ = false
 
--- What process jobs say of these substrates and carriers: those that are kept and known. The route of each recipe has one step.
+-- what process jobs say of these substrates and carriers: those that are kept and known
 abbrev pub job_view : List Substrate → List Carrier → Jobs → JobView
 job_view ss cs w = record {
   is_member = λ n. of_one false (of_job false (λ j. true) w) (substrate_numbered n ss);
@@ -128,7 +133,7 @@ job_view ss cs w = record {
   is_stopping = λ n. of_one false (of_job false (λ j. is_stopping j.states.state) w) (substrate_numbered n ss);
   is_aborting = λ n. of_one false (of_job false (λ j. is_aborting j.states.state) w) (substrate_numbered n ss);
   is_complete = λ n. of_one false (of_job false (λ j. is_complete j.states.state) w) (substrate_numbered n ss);
-  route_of = λ n. of_one [] (of_job [] (λ j. chambers_in (recipe_named j.recipe w.process.recipes)) w) (substrate_numbered n ss) ∷ [];
+  route_of = λ n. of_one [] (of_job [] (λ j. steps_in (recipe_named j.recipe w.process.recipes)) w) (substrate_numbered n ss);
   names_carrier = λ c. of_one false (λ (x : Carrier). is_any_of_carrier x.name w) (carrier_numbered c cs);
   is_marked = λ c. of_one false (λ (x : Carrier). x.stopped) (carrier_numbered c cs);
 }
@@ -146,8 +151,7 @@ picture f = record {
   transport = of_substrate 0 (λ s. transport_number s.states.transport) f;
   processing = of_substrate 0 (λ s. processing_number s.states.processing) f;
   is_aligned = of_substrate false (λ s. s.aligned) f;
-  -- the substrates of the tool count no steps yet: that of an unfinished one is to come, and of the others it isn't asked
-  steps_of = λ n. 0;
+  steps_of = of_substrate 0 (λ s. s.steps) f;
   carriers = map shop.number_of f.shop.carriers;
   present_at = of_carrier None where_present f;
   is_verified = of_carrier false (λ c. is_map_verified c.states.map) f;

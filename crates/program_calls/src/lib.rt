@@ -1,18 +1,22 @@
 //! What the program does with its words: it hands a file, standard input, standard output, and to `serve` besides a TCP port, the
-//! system's clock, a script that ends with the run and a gate that wakes, to `top_calls::feed` or to `serving::serve`, whose contracts
-//! are the promises of the whole program; and it prints what `--help` and `--version` ask for (docs/profile/words.md).
+//! system's clock, a script that ends with the run and a gate that wakes, to `top_calls::feed`, to `notes_top::notes_top` or to
+//! `serving::serve`, whose contracts are the promises of the whole program; and it prints what `--help` and `--version` ask for
+//! (docs/profile/words.md).
 //!
 //! It ends no process and reads no argument of one: `gem300_tool` does, and `program_runs` calls it with words of its own. Begin with
 //! `run_words`.
 #![tactic(auto)]
 
 use gem_ids::Text80;
+use notes_top::notes_top;
 use outside::{
-    FileSource, RunSigns, ScriptSource, StdinSource, StdoutSink, SystemClock, TcpDoor, WakeGate,
+    FileDisk, FileSource, RunSigns, ScriptSource, StdinSource, StdoutSink, SystemClock, TcpDoor,
+    WakeGate,
 };
 use program_words::{Question, Words, asked, command_of, help_text, version_text};
 use serving::serve;
 use std::alloc::{AllocError, Global};
+use std::fs::File;
 use std::net::{Net, TcpListener, TcpStream};
 use std::os::fd::AsRawFd;
 use std::rt::{Clock, Files};
@@ -43,8 +47,8 @@ fn answer<R: Print>(rt: &R, alloc: Global, question: Question) -> Result<Cause, 
     }
 }
 
-// The name of the configuration's file, as it was given: the last argument of each command.
-fn config_path(args: &[String]) -> &str {
+// The name of the file, as it was given: the last argument of each command.
+fn file_path(args: &[String]) -> &str {
     match args.last() {
         Some(path) => path.as_str(),
         None => "",
@@ -62,6 +66,20 @@ fn run_feed<R: Files + Input + Print>(
     let mut input = StdinSource::new(rt);
     let mut out = StdoutSink::new(rt);
     feed(alloc, words, &mut config, &mut input, &mut out).cause
+}
+
+// Calls `notes_top` on the file of this name as a disk, standard input and standard output, and tells why it ended.
+fn run_notes<R: Files<File = File> + Input + Print>(
+    rt: &R,
+    alloc: Global,
+    path: &str,
+    words: &[Text80],
+) -> Cause {
+    let disk = FileDisk::new(rt, path);
+    let mut input = StdinSource::new(rt);
+    let mut out = StdoutSink::new(rt);
+    let (_, cause, _) = notes_top(alloc, words, disk, &mut input, &mut out);
+    cause
 }
 
 // Tells on standard error which port could not be opened, and why, where that is so.
@@ -110,9 +128,26 @@ where
     Ok(ended.cause)
 }
 
-// Whether the words spell the command `serve`.
-fn is_serve(words: &[Text80]) -> bool {
-    matches!(command_of(words), Ok(Words::Serve(_)))
+// Does the command that the words spell. `feed` refuses words that spell none.
+fn run_command<
+    R: Threads
+        + Wait
+        + Sync
+        + Files<File = File>
+        + Input
+        + Print
+        + Eprint
+        + Net<Listener = TcpListener, Stream = TcpStream>
+        + Clock,
+>(rt: &R, alloc: Global, path: &str, words: &[Text80]) -> Result<Cause, AllocError>
+where
+    R::Reader: Send + AsRawFd,
+{
+    match command_of(words) {
+        Ok(Words::Serve(_)) => run_serve(rt, alloc, path, words),
+        Ok(Words::Notes(_)) => Ok(run_notes(rt, alloc, path, words)),
+        _ => Ok(run_feed(rt, alloc, path, words)),
+    }
 }
 
 /// Does what the arguments ask for, of which the first is the program's own name: prints what `--help` and `--version` ask for, or does the
@@ -122,7 +157,7 @@ pub fn run_words<
     R: Threads
         + Wait
         + Sync
-        + Files
+        + Files<File = File>
         + Input
         + Print
         + Eprint
@@ -136,10 +171,5 @@ where
     if let Some(question) = asked(&words) {
         return answer(rt, alloc, question);
     }
-    let path = config_path(args);
-    if is_serve(&words) {
-        run_serve(rt, alloc, path, &words)
-    } else {
-        Ok(run_feed(rt, alloc, path, &words))
-    }
+    run_command(rt, alloc, file_path(args), &words)
 }

@@ -6,7 +6,7 @@
 
 use program_calls::{Cause, run_words};
 use std::alloc::{AllocError, Global};
-use std::fs;
+use std::fs::{self, File};
 use std::net::{Net, TcpListener, TcpStream};
 use std::os::fd::AsRawFd;
 use std::process::ExitCode;
@@ -43,7 +43,7 @@ fn run_line<
     R: Threads
         + Wait
         + Sync
-        + Files
+        + Files<File = File>
         + Input
         + Print
         + Eprint
@@ -65,7 +65,7 @@ fn run_lines<
     R: Threads
         + Wait
         + Sync
-        + Files
+        + Files<File = File>
         + Input
         + Print
         + Eprint

@@ -1,6 +1,7 @@
 -- The commands of the program (this tool's profile, the program's words).
 use Rattle.std.specs.Prelude.{◌≡◌, ℕ, ◌+◌, max, Bool, not, ◌&&◌, is_some, nat_eq, if◌then◌else◌, List, [], ◌∷◌, codes, IsTrue, Option, Some, None}
 use Rattle.std.specs.List.{fold, starts_with}
+use Rattle.std.specs.Option.{option_or}
 use Rattle.std.specs.Str.{bytes_eq}
 use Rattle.program_words.specs.declared.words.Words.{Words}
 use Rattle.program_words.specs.declared.words.Words.TheVariants as command
@@ -24,6 +25,7 @@ most_carriers = 10000
 abbrev pub SpellsBehindSeed : ℕ → List (List ℕ) → Words → Type 0
 SpellsBehindSeed seed words (command.Feed config) = ⊥
 SpellsBehindSeed seed words (command.Serve config) = ⊥
+SpellsBehindSeed seed words (command.Notes file) = ⊥
 SpellsBehindSeed seed words (command.Batch s carriers config) =
     (s ≡ seed) × ((c : List ℕ) × (words ≡ c ∷ (config ∷ [])) × (number_in 1 most_carriers c ≡ Some carriers) × IsTrue (is_file_word config))
 
@@ -31,10 +33,11 @@ SpellsBehindSeed seed words (command.Batch s carriers config) =
 abbrev pub SpellsWith : List ℕ → List (List ℕ) → List ℕ → Type 0
 SpellsWith name words word = (words ≡ name ∷ (word ∷ [])) × IsTrue (is_file_word word)
 
--- the words spell the command: `feed CONFIG`, `serve CONFIG`, or `batch SEED CARRIERS CONFIG`
+-- the words spell the command: `feed CONFIG`, `serve CONFIG`, `batch SEED CARRIERS CONFIG`, or `notes FILE`
 abbrev pub Spells : List (List ℕ) → Words → Type 0
 Spells words (command.Feed config) = SpellsWith (codes "feed") words config
 Spells words (command.Serve config) = SpellsWith (codes "serve") words config
+Spells words (command.Notes file) = SpellsWith (codes "notes") words file
 Spells words (command.Batch seed carriers config) =
     (s : List ℕ) × (c : List ℕ) × (words ≡ codes "batch" ∷ (s ∷ (c ∷ (config ∷ [])))) × (number_in 0 most_seed s ≡ Some seed)
     × (number_in 1 most_carriers c ≡ Some carriers) × IsTrue (is_file_word config)
@@ -71,9 +74,13 @@ places_behind_batch = takes_number 0 most_seed ∷ places_behind_seed
 abbrev pub batch_places : Places
 batch_places = (λ word. bytes_eq word (codes "batch")) ∷ places_behind_batch
 
+-- `notes FILE`
+abbrev pub notes_places : Places
+notes_places = file_places (codes "notes")
+
 -- the commands of the program
 abbrev pub commands : List Places
-commands = feed_places ∷ (serve_places ∷ (batch_places ∷ []))
+commands = feed_places ∷ (serve_places ∷ (batch_places ∷ (notes_places ∷ [])))
 
 -- the first place, counted on from this one, whose word a command doesn't take: it isn't taken there, is one too many, or is missing
 abbrev pub misfit_of : ℕ → Places → List (List ℕ) → Option ℕ
@@ -96,6 +103,11 @@ misfit_among all words = fold (λ place command. later place (misfit_of 0 comman
 -- the first word that fits no command of the program, where the words spell none
 abbrev pub misfit : List (List ℕ) → Option ℕ
 misfit words = misfit_among commands words
+
+-- the place at which words are refused by a call that does these commands: where they are no command, the first that fits none; where
+-- they are another command, the first that fits none of these (this tool's profile, the program's words)
+abbrev pub refused_by : List Places → List (List ℕ) → Option ℕ
+refused_by done words = option_or (misfit words) (misfit_among done words)
 
 -- the place that a fault tells
 abbrev pub place_of : WordsFault → ℕ

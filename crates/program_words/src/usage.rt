@@ -45,6 +45,7 @@ Words:
   CONFIG    a file: a configuration, a table of TOML of at most 65,536 bytes
   SEED      a number from 0 to 18446744073709551615
   CARRIERS  a number from 1 to 10000
+  FILE      a file: a durable spool, or what is to be one
 
 Standard error tells why the program ends. Its status is:
   0  the input was read to its end, or `quit` came, and all was written
@@ -56,8 +57,10 @@ Standard error tells why the program ends. Its status is:
   6  line N at P             line N of the input is none from byte P on
   7  no memory
   8  door fault              the door failed, or closed before the run ended
+  10 disk fault              the file of a durable spool could not be read, written or synced
+  11 unread at P             that file is no durable spool from byte P on
 
-docs/profile has all of it: words.md, configuration.md, lines.md, serve.md, batch.md.";
+docs/profile has all of it: words.md, configuration.md, lines.md, serve.md, batch.md, durable_spool.md.";
 
 // The program with its commands.
 const TOOL: Program = Program {

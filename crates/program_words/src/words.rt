@@ -2,7 +2,7 @@
 ghost use Rattle.std.specs.Prelude.{◌≡◌, ◌≤◌, ◌↔◌, Ok, Some, None, IfOk, IfErr, IfSome, IsOk, IsTrue, [], ◌∷◌, ◌<◌, codes};
 ghost use Rattle.program_words.specs.declared.words.Words.{Words};
 ghost use Rattle.program_words.specs.Numbers.{number_in};
-ghost use Rattle.program_words.specs.Commands.{misfit_of, feed_places, serve_places, batch_places, misfit, Spells, SpellsBehindSeed, places_behind_seed, places_behind_batch, place_of};
+ghost use Rattle.program_words.specs.Commands.{misfit_of, feed_places, serve_places, batch_places, notes_places, misfit, Spells, SpellsBehindSeed, places_behind_seed, places_behind_batch, place_of};
 
 use crate::number::number_in;
 use crate::reading::{file_behind, last_file, split_word};
@@ -30,8 +30,15 @@ const BATCH: Row = Row {
     does: "Processes carriers, reads no input and prints a summary",
 };
 
+// `notes FILE`
+const NOTES: Row = Row {
+    name: "notes",
+    words: "FILE",
+    does: "Reads lines to a durable spool from standard input and prints its notes",
+};
+
 /// The table of the commands, in the order in which the usage text has them.
-pub(crate) const COMMANDS: &[Row] = &[FEED, SERVE, BATCH];
+pub(crate) const COMMANDS: &[Row] = &[FEED, SERVE, BATCH, NOTES];
 
 // The greatest seed.
 const MOST_SEED: u64 = u64::MAX;
@@ -50,6 +57,8 @@ pub enum Words {
     /// `batch SEED CARRIERS CONFIG`: processes so many carriers, 1 to 10,000, under the configuration in this file. The order in
     /// which its modules answer comes of the seed.
     Batch(u64, u32, Text80),
+    /// `notes FILE`: reads lines from standard input, which change and print the notes of the durable spool in this file.
+    Notes(Text80),
 }
 
 /// Why words are no command.
@@ -126,9 +135,20 @@ fn batch_of(words: &[Text80]) -> Result<Words, u64>
     batch_behind_name(words)
 }
 
-/// The command that the words spell (this tool's profile, the program's words): `feed CONFIG`, `serve CONFIG`, or
-/// `batch SEED CARRIERS CONFIG` with numbers in decimal digits without leading zeros. A file is a word that isn't empty and doesn't
-/// begin with a minus. `Place` comes exactly where the words spell none. Takes no memory.
+// The command `notes FILE`, or the place of the first word that doesn't fit it.
+fn notes_of(words: &[Text80]) -> Result<Words, u64>
+    ensures ok { IfOk result (λ w. Spells words.now w) }
+    ensures place { IfErr result (λ place. misfit_of 0 notes_places words.now ≡ Some place) }
+{
+    match file_behind(NOTES.name.as_bytes(), words) {
+        Ok(file) => Ok(Words::Notes(file)),
+        Err(place) => Err(place),
+    }
+}
+
+/// The command that the words spell (this tool's profile, the program's words): `feed CONFIG`, `serve CONFIG`,
+/// `batch SEED CARRIERS CONFIG` with numbers in decimal digits without leading zeros, or `notes FILE`. A file is a word that isn't
+/// empty and doesn't begin with a minus. `Place` comes exactly where the words spell none. Takes no memory.
 pub fn command_of(words: &[Text80]) -> Result<Words, WordsFault>
     ensures command { IfOk result (λ w. Spells words.now w) }
     ensures place { IfErr result (λ e. misfit words.now ≡ Some (place_of e)) }
@@ -143,8 +163,12 @@ pub fn command_of(words: &[Text80]) -> Result<Words, WordsFault>
         Ok(command) => return Ok(command),
         Err(place) => place,
     };
-    match batch_of(words) {
+    let batch = match batch_of(words) {
+        Ok(command) => return Ok(command),
+        Err(place) => place,
+    };
+    match notes_of(words) {
         Ok(command) => Ok(command),
-        Err(place) => Err(WordsFault::Place(feed.max(serve).max(place))),
+        Err(place) => Err(WordsFault::Place(feed.max(serve).max(batch).max(place))),
     }
 }

@@ -6,7 +6,7 @@ use Rattle.gem_ids.specs.declared.numbers.LocId.{LocId}
 use Rattle.gem_ids.specs.declared.numbers.LocId.TheVariants.{Slot, Aligner, Arm, Chamber}
 use Rattle.substrate.specs.Locations.{is_same, is_work_place}
 use Rattle.robot_moves.specs.Modules.{module_at, is_idle}
-use Rattle.robot_moves.specs.Moves.{holder, free_target, may_leave, is_useful, first_among, best_pick, pick_move, arm_move, robot_move, align_move, aligner_move, process_move, chamber_move, module_move}
+use Rattle.robot_moves.specs.Moves.{holder, free_target, may_leave, is_useful, is_next, first_among, best_pick, pick_move, arm_move, robot_move, align_move, aligner_move, process_move, chamber_move, module_move}
 use Rattle.robot_moves.specs.Best.{Rests, AllRest}
 use Rattle.robot_moves.specs.declared.module.Module.{Module}
 use Rattle.robot_moves.specs.declared.view.PlaceView.{PlaceView}
@@ -61,7 +61,7 @@ aligner_is views modules m e =
 process_is : (number : ℕ) (o : Option PlaceView) (m : Move) → process_move number o ≡ Some m → (m.«module».0 ≡ number) × (is_one_of (1 ∷ 2 ∷ 3 ∷ 4 ∷ []) m.row ≡ true)
 process_is number None m e = absurd (cc)
 process_is number (Some v) m e =
-    let found = where_idle (not v.finished && not v.in_process) _ m e in
+    let found = where_idle (not v.finished && is_next v (number - 2)) _ m e in
     (ap (λ (x : Option Move). number_of x) (sym found.1), ap (λ (x : Option Move). row_known x) (sym found.1))
   where
     number_of : Option Move → ℕ

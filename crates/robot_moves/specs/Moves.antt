@@ -37,17 +37,17 @@ is_free views modules Aligner = is_empty Aligner views && is_idle (module_at 2 m
 is_free views modules Arm = is_empty Arm views && is_idle (module_at 1 modules)
 is_free views modules (Chamber c) = is_empty (Chamber c) views && is_idle (module_at (chamber_module c) modules)
 
--- a chamber, where it is of the substrate's recipe, empty and Idle
+-- a chamber, where it is in the substrate's next step, empty and Idle
 abbrev pub chamber_where_free : List PlaceView → List Module → PlaceView → ℕ → Option ℕ
 chamber_where_free views modules v c =
     if has_chamber v.chambers c && is_free views modules (Chamber c) then Some c else None
 
--- the least numbered chamber of its recipe that is empty and Idle; a set has chambers 1 to 8
+-- the least numbered chamber of its next step that is empty and Idle; a set has chambers 1 to 8
 abbrev pub free_chamber : List PlaceView → List Module → PlaceView → Option ℕ
 free_chamber views modules v = first_of (chamber_where_free views modules v) 1 8
 
 -- the target of a finished substrate is its own slot; of one that isn't aligned the aligner; else the least numbered chamber of
--- its recipe that is empty and Idle
+-- its next step that is empty and Idle
 abbrev pub target : List PlaceView → List Module → PlaceView → Option LocId
 target views modules v =
     if v.finished then Some v.slot
@@ -64,13 +64,18 @@ free_target views modules v = where_free views modules (target views modules v)
 
 -- ---- which substrate is to be picked
 
+-- a chamber of 1 to 8 is in the next step of the substrate's route
+abbrev pub is_next : PlaceView → ℕ → Bool
+is_next v c = (nat_le 1 c && nat_le c 8) && has_chamber v.chambers c
+
 -- the substrate may leave where it is: it stands at an Idle module with nothing left to do there, or in its slot, unfinished,
 -- with its job PROCESSING; at the aligner nothing is left to do where it is finished or aligned, at a chamber where it is finished
+-- or the chamber isn't in its next step
 abbrev pub may_leave : LocId → List Module → PlaceView → Bool
 may_leave (Slot p k) modules v = (is_same (Slot p k) v.slot && not v.finished) && v.may_start
 may_leave Aligner modules v = is_idle (module_at 2 modules) && (v.finished || v.aligned)
 may_leave Arm modules v = false
-may_leave (Chamber c) modules v = is_idle (module_at (chamber_module c) modules) && v.finished
+may_leave (Chamber c) modules v = is_idle (module_at (chamber_module c) modules) && (v.finished || not (is_next v c))
 
 -- a pick is useful where the substrate may leave, and its target is free
 abbrev pub is_useful : List PlaceView → List Module → PlaceView → Bool
@@ -140,11 +145,11 @@ align_move (Some v) = if not v.finished && not v.aligned then Some (move_by 2 3 
 abbrev pub aligner_move : List PlaceView → List Module → Option Move
 aligner_move views modules = if is_idle (module_at 2 modules) then align_move (holder Aligner views) else None
 
--- row 4: what a chamber holds is processed, where it is NEEDS PROCESSING
+-- row 4: what a chamber holds is processed, where it is unfinished and the chamber is in its next step
 abbrev pub process_move : ℕ → Option PlaceView → Option Move
 process_move number None = None
 process_move number (Some v) =
-    if not v.finished && not v.in_process then Some (move_by number 4 (task.Process v.sub v.recipe)) else None
+    if not v.finished && is_next v (number - 2) then Some (move_by number 4 (task.Process v.sub v.recipe)) else None
 
 -- a chamber, when Idle, by the number of its module
 abbrev pub chamber_move : ℕ → List PlaceView → List Module → Option Move

@@ -15,7 +15,7 @@ pub data MoveWant : Type 0 where
   pick_useful : MoveWant
   -- it is the aligner, and holds an unfinished substrate that isn't aligned
   align_wanted : MoveWant
-  -- it is a chamber, and holds a substrate that is NEEDS PROCESSING
+  -- it is a chamber, holds an unfinished substrate, and is in the next step of that
   process_wanted : MoveWant
   -- its open command is a Pick or a Place, an Align, or a Process
   move_open : MoveWant
@@ -34,6 +34,8 @@ pub data MoveEffect : Type 0 where
   moves : MoveEffect
   -- the substrate is aligned
   aligns : MoveEffect
+  -- where the step isn't the last and the job isn't ABORTING the step is done
+  steps : MoveEffect
   -- the open command is closed and nothing moves; the alarm of the module is set
   closes : MoveEffect
   -- the alarm of the module is cleared
@@ -75,7 +77,7 @@ move_table =
     -- Done of Align
     ∷ by_input 6 (Busy ∷ []) align_open Idle aligns
     -- Done of Process
-    ∷ by_input 7 (Busy ∷ []) process_open Idle no_more
+    ∷ by_input 7 (Busy ∷ []) process_open Idle steps
     -- Failed
     ∷ by_input 8 (Busy ∷ []) nothing_more Down closes
     -- the signal Down

@@ -11,7 +11,7 @@ use Rattle.robot_moves.specs.declared.view.PlaceView.{PlaceView}
 abbrev pub slot : ℕ → LocId
 slot k = loc.Slot (record { 0 = 1 }) (record { 0 = k })
 
--- the first substrate of CAR01, in its slot, unfinished and not aligned, with its job PROCESSING; both chambers are in its recipe
+-- the first substrate of CAR01, in its slot, unfinished and not aligned, with its job PROCESSING; both chambers are in its next step
 abbrev pub first_wafer : PlaceView
 first_wafer = record {
   sub = codes "CAR01.01";
@@ -46,6 +46,14 @@ finished_in c = record (in_chamber c) { finished = true }
 abbrev pub first_finished_in : ℕ → PlaceView
 first_finished_in c = record first_wafer { at = loc.Chamber c; aligned = true; finished = true }
 
+-- the third, in a chamber, unfinished: the step that this chamber is in is done, and chamber 3 is its next step
+abbrev pub between_steps_in : ℕ → PlaceView
+between_steps_in c = record (in_chamber c) { in_process = true; chambers = 4 }
+
+-- it is on the arm
+abbrev pub between_steps_on_arm : PlaceView
+between_steps_on_arm = record (between_steps_in 1) { at = loc.Arm }
+
 -- the second, in its slot as it was registered
 abbrev pub second_wafer : PlaceView
 second_wafer = record at_aligner { at = slot 2; aligned = false }
@@ -57,6 +65,14 @@ busy = Busy (record { number = record { 0 = 9 }; task = task.Align (codes "CAR01
 -- robot, aligner and two chambers, each Idle
 abbrev pub all_idle : List Module
 all_idle = Idle ∷ Idle ∷ Idle ∷ Idle ∷ []
+
+-- with a third chamber, each Idle
+abbrev pub three_idle : List Module
+three_idle = Idle ∷ Idle ∷ Idle ∷ Idle ∷ Idle ∷ []
+
+-- of the three the last is Busy
+abbrev pub third_chamber_busy : List Module
+third_chamber_busy = Idle ∷ Idle ∷ Idle ∷ Idle ∷ busy ∷ []
 
 -- the aligner is Down
 abbrev pub aligner_down : List Module

@@ -5,7 +5,7 @@ ghost use Rattle.robot_moves.specs.Moves.{place_move, arm_move, robot_move, alig
 
 use crate::listed::Listed;
 use crate::modules::Modules;
-use crate::targets::{ALIGNER, ROBOT, free_target};
+use crate::targets::{ALIGNER, ROBOT, free_target, is_next};
 use crate::view::{Move, PlaceView};
 use crate::whereabouts::{Picks, Whereabouts};
 use gem_ids::{LocId, ModuleId};
@@ -30,7 +30,7 @@ impl Planner {
     /// The robot, when Idle, places what its arm holds, if its target is free; with an empty arm it does the useful pick of the
     /// greatest stage, then the least number of registration. Stages rise from the slots over the aligner to the chambers, and
     /// of these by their numbers. The aligner, when Idle, aligns what it holds, if that is unfinished and isn't aligned. A
-    /// chamber, when Idle, processes what it holds, if that is NEEDS PROCESSING. Takes no memory.
+    /// chamber, when Idle, processes what it holds, if that is unfinished and the chamber is in its next step. Takes no memory.
     pub fn next(&self, places: &[PlaceView], modules: &Modules) -> Option<Move>
         ensures least { result ≡ next_move places.now modules.now }
         ensures finds { result ≡ None → (number : ℕ) → module_move number places.now modules.now ≡ None }
@@ -170,11 +170,12 @@ fn chamber_move<P: Whereabouts>(number: u8, places: &P, modules: &Modules) -> Op
 }
 
 fn process_move(number: u8, held: Option<PlaceView>) -> Option<Move>
+    requires { 2 < number }
     ensures { result ≡ process_move number held }
 {
     match held {
         Some(v) => {
-            if !v.finished && !v.in_process {
+            if !v.finished && is_next(&v, number - 2) {
                 Some(Move {
                     module: ModuleId(number),
                     row: 4,

@@ -2,7 +2,7 @@
 
 ghost use Rattle.std.specs.Prelude.{◌≡◌, ◌≤◌, ◌&&◌};
 ghost use Rattle.robot_moves.specs.Modules.{module_at, chamber_module, is_idle};
-ghost use Rattle.robot_moves.specs.Moves.{is_empty, is_free, chamber_where_free, free_chamber, target, free_target, may_leave, is_useful};
+ghost use Rattle.robot_moves.specs.Moves.{is_empty, is_free, chamber_where_free, free_chamber, target, free_target, is_next, may_leave, is_useful};
 
 use crate::modules::Modules;
 use crate::view::PlaceView;
@@ -29,8 +29,15 @@ fn may_leave(modules: &Modules, v: &PlaceView) -> bool
         LocId::Slot(..) => is_same(v.at, v.slot) && !v.finished && v.may_start,
         LocId::Aligner => modules.is_idle(ALIGNER) && (v.finished || v.aligned),
         LocId::Arm => false,
-        LocId::Chamber(c) => chamber_is_idle(modules, c) && v.finished,
+        LocId::Chamber(c) => chamber_is_idle(modules, c) && (v.finished || !is_next(v, c)),
     }
+}
+
+// Whether a chamber of 1 to 8 is in the next step of the substrate's route.
+pub(crate) fn is_next(v: &PlaceView, c: u8) -> bool
+    ensures { result ≡ is_next v.now c }
+{
+    1 <= c && c <= 8 && has_chamber(v.chambers, c)
 }
 
 // Where a substrate is to go, where that is free.
@@ -68,7 +75,7 @@ fn target<P: Whereabouts>(places: &P, modules: &Modules, v: &PlaceView) -> Optio
     }
 }
 
-// The least numbered chamber of its recipe that is empty and Idle.
+// The least numbered chamber of its next step that is empty and Idle.
 fn free_chamber<P: Whereabouts>(places: &P, modules: &Modules, v: &PlaceView) -> Option<u8>
     ensures { result ≡ free_chamber (P.told places.now) modules.now v.now }
 {
@@ -81,7 +88,7 @@ fn free_chamber<P: Whereabouts>(places: &P, modules: &Modules, v: &PlaceView) ->
     None
 }
 
-// A chamber, 1 to 8, where it is of the substrate's recipe, empty and Idle.
+// A chamber, 1 to 8, where it is in the substrate's next step, empty and Idle.
 fn chamber_where_free<P: Whereabouts>(
     places: &P,
     modules: &Modules,

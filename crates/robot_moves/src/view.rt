@@ -5,7 +5,7 @@ use tool_tasks::Task;
 
 /// What the planner is told of a substrate that has a place: its name and its number of registration; where it is, and its own
 /// slot; whether it is aligned, finished, and IN PROCESS; whether it may leave its slot, which is so where its job is
-/// PROCESSING; the chambers of its recipe, bit c - 1 for chamber c; and the recipe.
+/// PROCESSING; the chambers of the next step of its route, bit c - 1 for chamber c; and the recipe.
 #[derive(Clone, Copy)]
 pub struct PlaceView {
     pub sub: SubstrateId,

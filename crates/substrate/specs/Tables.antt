@@ -25,7 +25,7 @@ pub data SubstrateWant : Type 0 where
   process_names_it : SubstrateWant
   -- it is in its slot, its job is STOPPING or ABORTING, and no open command names it
   in_slot_of_ending_job : SubstrateWant
-  -- it is outside, and its job is STOPPING, or ABORTING
+  -- it is outside, its job is STOPPING, or ABORTING, and where it is IN PROCESS no open Process command names it
   outside_of_stopping_job : SubstrateWant
   outside_of_aborting_job : SubstrateWant
 
@@ -84,12 +84,13 @@ transport_table =
 --    1 registered   +------------------+   2 Process is open      +------------+
 --   --------------> | NEEDS PROCESSING | -----------------------> | IN PROCESS |
 --                   +------------------+                          +------------+
---                     |       |       |                             |        |
---                     | 5     | 6     | 7                    4 ends |        | 3 Done
---                     v       v       v                   otherwise v        v
---             +---------+ +---------+ +---------+ <-----------------+   +-----------+
---             | SKIPPED | | STOPPED | | ABORTED |                       | PROCESSED |
---             +---------+ +---------+ +---------+                       +-----------+
+--                     |       |       |                         |     |        |
+--                     | 5     | 6     | 7            6, 7 between |     | 4 ends | 3 Done of
+--                     |       |       |              two steps    |     | other- | the last
+--                     v       v       v                           v     v wise   v step
+--             +---------+ +---------+ +---------+  STOPPED, ABORTED   ABORTED   +-----------+
+--             | SKIPPED | | STOPPED | | ABORTED |                               | PROCESSED |
+--             +---------+ +---------+ +---------+                               +-----------+
 --
 --    8 `lost`: from every state but LOST to LOST. 5 REJECTED isn't reached.
 
@@ -114,13 +115,13 @@ processing_table =
     -- registered
     by_creation 1 nothing_more NeedsProcessing no_more
     ∷ by_itself 2 (NeedsProcessing ∷ []) process_names_it InProcess no_more
-    -- Done of Process, where its job isn't ABORTING
+    -- Done of Process of the last step of its route, where its job isn't ABORTING
     ∷ by_input 3 (InProcess ∷ []) nothing_more Processed no_more
     -- Done of Process, where its job is ABORTING; Failed or Down of its chamber
     ∷ by_input 4 (InProcess ∷ []) nothing_more Aborted no_more
     ∷ by_itself 5 (NeedsProcessing ∷ []) in_slot_of_ending_job Skipped no_more
-    ∷ by_itself 6 (NeedsProcessing ∷ []) outside_of_stopping_job Stopped no_more
-    ∷ by_itself 7 (NeedsProcessing ∷ []) outside_of_aborting_job Aborted no_more
+    ∷ by_itself 6 (NeedsProcessing ∷ InProcess ∷ []) outside_of_stopping_job Stopped no_more
+    ∷ by_itself 7 (NeedsProcessing ∷ InProcess ∷ []) outside_of_aborting_job Aborted no_more
     -- the operator's `lost`
     ∷ by_input 8 not_lost nothing_more Lost loses_place
     ∷ []

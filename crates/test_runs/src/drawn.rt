@@ -6,7 +6,8 @@
 //! `3279 substrates, 26232 Dones`. Each lot is played with modules that do all that they are told, and once more with one
 //! disturbance. Where one goes otherwise than is wanted, the answer tells of which seed, behind how many commands, and what.
 
-use crate::lots::{Shape, ports_of, up_to};
+use crate::lots::Shape;
+use crate::plant::Plant;
 use crate::played::Played;
 use crate::tool::Tools;
 use anyhow::{Result, bail};
@@ -126,7 +127,7 @@ fn play_both<O: Tools>(
     }
 }
 
-// Plays the lot of a seed. The tool that it is played to has one to eight chambers and one to four ports, which are drawn.
+// Plays the lot of a seed. The tool that it is played to has a plant that is drawn.
 fn play<O: Tools>(
     tools: &O,
     alloc: Global,
@@ -136,11 +137,10 @@ fn play<O: Tools>(
     answer: &mut String,
 ) -> Option<Counts> {
     let mut last = seed;
-    let chambers = up_to(&mut last, 8);
-    let ports = ports_of(shape, &mut last);
-    match plant_of(tools, alloc, chambers, ports) {
+    let plant = Plant::draw(shape, &mut last);
+    match tool_of(tools, alloc, &plant) {
         Some(tool) => {
-            let mut played = Played::new(alloc, tool, last, ports);
+            let mut played = Played::new(alloc, tool, last, plant);
             let counts = played.plays(alloc, shape, is_disturbed);
             told(&played, counts, seed, is_disturbed, answer)
         }
@@ -148,11 +148,11 @@ fn play<O: Tools>(
     }
 }
 
-// A tool with so many chambers and ports.
-fn plant_of<O: Tools>(tools: &O, alloc: Global, chambers: u64, ports: u64) -> Option<O::Tool> {
-    match (u8::try_from(chambers), u8::try_from(ports)) {
-        (Ok(chambers), Ok(ports)) => tools.with_plant(alloc, chambers, ports),
-        _ => None,
+// A tool with this plant.
+fn tool_of<O: Tools>(tools: &O, alloc: Global, plant: &Plant) -> Option<O::Tool> {
+    match &plant.configuration(alloc) {
+        Some(configuration) => tools.opened(alloc, configuration.as_str()),
+        None => None,
     }
 }
 

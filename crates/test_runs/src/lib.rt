@@ -19,6 +19,7 @@ mod frames;
 mod given;
 mod lots;
 mod narrow;
+mod plant;
 mod play;
 mod played;
 mod spoken;

@@ -1,5 +1,6 @@
 //! How a lot of a seed begins: the carriers that come, and what the host asks. A truth value tells whether it goes as is wanted.
 
+use crate::drawn::Counts;
 use crate::played::Played;
 use crate::tool::Tool;
 use gem_ids::{CarrierId, PortNo, Text80};
@@ -23,14 +24,6 @@ pub(crate) fn up_to(last: &mut u64, most: u64) -> u64 {
         .checked_rem(most)
         .unwrap_or(0)
         .saturating_add(1)
-}
-
-/// How many ports a tool of this shape has, at most 4, which is drawn: as many at least as carriers come.
-pub(crate) fn ports_of(shape: Shape, last: &mut u64) -> u64 {
-    match shape {
-        Shape::One | Shape::Shared => up_to(last, 4),
-        Shape::Each | Shape::Both => up_to(last, 3).saturating_add(1),
-    }
 }
 
 // The map of a carrier with so many substrates, which stand in its first slots.
@@ -79,12 +72,17 @@ fn carrier_of(alloc: Global, port: u64) -> Option<Text80> {
     }
 }
 
-// The messages that create a process job over the material that stands between what begins and what ends them. It starts by itself.
-const FIRST_JOB: &str = "S16F11 W 4 L[U4 0, A PJ1, B 0D, L[";
+// The messages that create the first process job, by recipe R1, and the second, by R2, over the material that stands between what begins
+// and what ends them. Each starts by itself.
+const FIRST_JOB: [&str; 2] = [
+    "S16F11 W 4 L[U4 0, A PJ1, B 0D, L[",
+    "], L[U1 1, A R1, L[]], BOOL true, L[]]",
+];
 
-const SECOND_JOB: &str = "S16F11 W 4 L[U4 0, A PJ2, B 0D, L[";
-
-const JOB_END: &str = "], L[U1 1, A R1, L[]], BOOL true, L[]]";
+const SECOND_JOB: [&str; 2] = [
+    "S16F11 W 4 L[U4 0, A PJ2, B 0D, L[",
+    "], L[U1 1, A R2, L[]], BOOL true, L[]]",
+];
 
 // The messages that create a control job of the first process job, and of both.
 const CONTROL_JOB: &str =
@@ -139,54 +137,78 @@ impl<T: Tool> Played<T> {
         }
     }
 
-    // The host creates a process job over this material, by a message that begins so.
-    fn create(&mut self, alloc: Global, job: &str, material: &str) -> bool {
-        match format!(in alloc; "{job}{material}{JOB_END}") {
+    // The host creates a process job over this material, by a message that begins and ends so.
+    fn create(&mut self, alloc: Global, job: [&str; 2], material: &str) -> bool {
+        let [begin, end] = job;
+        match format!(in alloc; "{begin}{material}{end}") {
             Ok(words) => self.send(alloc, words.as_str()),
             Err(_) => false,
         }
     }
 
     // The same over all of the carrier of a port.
-    fn create_over_all(&mut self, alloc: Global, job: &str, port: u64) -> bool {
+    fn create_over_all(&mut self, alloc: Global, job: [&str; 2], port: u64) -> bool {
         let mut material = String::new(alloc);
         push_all(&mut material, port) && self.create(alloc, job, material.as_str())
     }
 
     // The same over these slots of the carrier of a port.
-    fn create_over(&mut self, alloc: Global, job: &str, port: u64, from: u64, last: u64) -> bool {
+    fn create_over(
+        &mut self,
+        alloc: Global,
+        job: [&str; 2],
+        port: u64,
+        from: u64,
+        last: u64,
+    ) -> bool {
         let mut material = String::new(alloc);
         push_material(&mut material, port, from, last) && self.create(alloc, job, material.as_str())
     }
 
-    fn begin_one(&mut self, alloc: Global) -> Option<u64> {
-        let port = up_to(&mut self.last, self.ports);
+    // So many substrates, which recipe R1 processes, and so many more, which R2 does, and the commands that they take.
+    fn counts(&self, substrates: u64, more: u64) -> Counts {
+        Counts {
+            substrates: substrates.saturating_add(more),
+            dones: self.plant.dones(substrates, more),
+        }
+    }
+
+    fn begin_one(&mut self, alloc: Global) -> Option<Counts> {
+        let port = up_to(&mut self.last, self.plant.ports);
         match self.receive(alloc, port) {
-            Some(substrates) if self.create_over_all(alloc, FIRST_JOB, port) => Some(substrates),
+            Some(substrates) if self.create_over_all(alloc, FIRST_JOB, port) => {
+                Some(self.counts(substrates, 0))
+            }
             _ => None,
         }
     }
 
-    // The first process job has the slots from the first on, the second those to the last, and one at least is of both.
-    fn create_shared(&mut self, alloc: Global, port: u64, substrates: u64) -> bool {
+    // The first process job has the slots from the first on, the second those to the last, and one at least is of both: what stands in
+    // such a slot is processed by the first.
+    fn create_shared(&mut self, alloc: Global, port: u64, substrates: u64) -> Option<Counts> {
         let end = up_to(&mut self.last, substrates);
         let begin = up_to(&mut self.last, end);
-        self.create_over(alloc, FIRST_JOB, port, 1, end)
+        if self.create_over(alloc, FIRST_JOB, port, 1, end)
             && self.create_over(alloc, SECOND_JOB, port, begin, substrates)
+        {
+            Some(self.counts(end, substrates.saturating_sub(end)))
+        } else {
+            None
+        }
     }
 
-    fn begin_shared(&mut self, alloc: Global) -> Option<u64> {
-        let port = up_to(&mut self.last, self.ports);
+    fn begin_shared(&mut self, alloc: Global) -> Option<Counts> {
+        let port = up_to(&mut self.last, self.plant.ports);
         match self.receive(alloc, port) {
-            Some(substrates) if self.create_shared(alloc, port, substrates) => Some(substrates),
-            _ => None,
+            Some(substrates) => self.create_shared(alloc, port, substrates),
+            None => None,
         }
     }
 
     // Two ports: one that is drawn, and the next, which is port 1 behind the last.
     fn two_ports(&mut self) -> (u64, u64) {
-        let first = up_to(&mut self.last, self.ports);
-        if first < self.ports {
+        let first = up_to(&mut self.last, self.plant.ports);
+        if first < self.plant.ports {
             (first, first.saturating_add(1))
         } else {
             (first, 1)
@@ -194,12 +216,12 @@ impl<T: Tool> Played<T> {
     }
 
     // Two carriers come to these ports, and give how many substrates they have.
-    fn receive_two(&mut self, alloc: Global, first: u64, second: u64) -> Option<u64> {
+    fn receive_two(&mut self, alloc: Global, first: u64, second: u64) -> Option<(u64, u64)> {
         let Some(substrates) = self.receive(alloc, first) else {
             return None;
         };
         match self.receive(alloc, second) {
-            Some(more) => Some(substrates.saturating_add(more)),
+            Some(more) => Some((substrates, more)),
             None => None,
         }
     }
@@ -209,10 +231,12 @@ impl<T: Tool> Played<T> {
             && self.create_over_all(alloc, SECOND_JOB, second)
     }
 
-    fn begin_each(&mut self, alloc: Global) -> Option<u64> {
+    fn begin_each(&mut self, alloc: Global) -> Option<Counts> {
         let (first, second) = self.two_ports();
         match self.receive_two(alloc, first, second) {
-            Some(substrates) if self.create_each(alloc, first, second) => Some(substrates),
+            Some((substrates, more)) if self.create_each(alloc, first, second) => {
+                Some(self.counts(substrates, more))
+            }
             _ => None,
         }
     }
@@ -222,16 +246,18 @@ impl<T: Tool> Played<T> {
         push_both(&mut material, first, second) && self.create(alloc, FIRST_JOB, material.as_str())
     }
 
-    fn begin_both(&mut self, alloc: Global) -> Option<u64> {
+    fn begin_both(&mut self, alloc: Global) -> Option<Counts> {
         let (first, second) = self.two_ports();
         match self.receive_two(alloc, first, second) {
-            Some(substrates) if self.create_both(alloc, first, second) => Some(substrates),
+            Some((substrates, more)) if self.create_both(alloc, first, second) => {
+                Some(self.counts(substrates.saturating_add(more), 0))
+            }
             _ => None,
         }
     }
 
-    // Carriers come, and process jobs of them are created. Gives how many substrates there are.
-    fn begin_jobs(&mut self, alloc: Global, shape: Shape) -> Option<u64> {
+    // Carriers come, and process jobs of them are created. Gives how many substrates there are, and how many commands they take.
+    fn begin_jobs(&mut self, alloc: Global, shape: Shape) -> Option<Counts> {
         match shape {
             Shape::One => self.begin_one(alloc),
             Shape::Shared => self.begin_shared(alloc),
@@ -253,13 +279,13 @@ impl<T: Tool> Played<T> {
     }
 
     /// A link comes up, on which the host has CEID 1508 alone told, carriers come, and process jobs and a control job of them are
-    /// created. Gives how many substrates there are.
-    pub(crate) fn begin(&mut self, alloc: Global, shape: Shape) -> Option<u64> {
+    /// created. Gives how many substrates there are, and how many commands they take where nothing disturbs them.
+    pub(crate) fn begin(&mut self, alloc: Global, shape: Shape) -> Option<Counts> {
         if !self.connect(alloc) {
             return None;
         }
         match self.begin_jobs(alloc, shape) {
-            Some(substrates) if self.start(alloc, shape) => Some(substrates),
+            Some(wanted) if self.start(alloc, shape) => Some(wanted),
             _ => None,
         }
     }

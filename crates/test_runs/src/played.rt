@@ -1,6 +1,7 @@
 //! A tool that a lot is played to: what it is told, and what it hands out. A truth value tells whether the lot goes as is wanted.
 
 use crate::events::frame;
+use crate::plant::Plant;
 use crate::tool::Tool;
 use conversation_files::spelled;
 use gem_ids::{ModuleId, Moment, Text80};
@@ -28,14 +29,14 @@ pub(crate) struct Fetched {
     pub(crate) command: Command,
 }
 
-/// A tool, what it answered last, and how many ports it has; what was drawn last; the commands that were fetched and have not
+/// A tool, what it answered last, and its plant; what was drawn last; the commands that were fetched and have not
 /// ended, and how many have; the names of what is on the arm, at the aligner and in the chambers; how often a control job was told
 /// to be COMPLETED; what disturbs the lot, and the module that is Down by it; and why it goes otherwise, where it does.
 #[derive(Drop)]
 pub(crate) struct Played<T> {
     tool: T,
     answer: Result<Answer, PostFault>,
-    pub(crate) ports: u64,
+    pub(crate) plant: Plant,
     pub(crate) last: u64,
     pub(crate) open: Vec<Fetched>,
     pub(crate) ended: u64,
@@ -97,11 +98,11 @@ fn frame_of(alloc: Global, words: &str) -> Option<Frame> {
 }
 
 impl<T: Tool> Played<T> {
-    pub(crate) fn new(alloc: Global, tool: T, last: u64, ports: u64) -> Played<T> {
+    pub(crate) fn new(alloc: Global, tool: T, last: u64, plant: Plant) -> Played<T> {
         Played {
             tool,
             answer: Ok(Answer::Done),
-            ports,
+            plant,
             last,
             open: Vec::new(alloc),
             ended: 0,

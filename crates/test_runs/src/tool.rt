@@ -51,10 +51,6 @@ pub trait Tools {
     /// One that begins under the configuration that a text says. None: none says it, or there is no memory.
     fn opened(&self, alloc: Global, configuration: &str) -> Option<Self::Tool>;
 
-    /// One with so many chambers, 1 to 8, and ports, 1 to 4, that begins COMMUNICATING and ON-LINE and knows one recipe, R1, a step that
-    /// each of its chambers can do. None: no tool has so many, or there is no memory.
-    fn with_plant(&self, alloc: Global, chambers: u8, ports: u8) -> Option<Self::Tool>;
-
     /// Runs over the lines of an input, with the words of the command. The error: there is no memory to tell how it ended.
     fn run<S: Source, K: Sink>(
         &self,

@@ -219,8 +219,9 @@ impl<T: Tool> Played<T> {
         self.play_on(alloc, is_disturbed, dones, due)
     }
 
-    /// Plays a lot, and gives how many substrates it has, and how many commands ended. Undisturbed these are eight Dones for each
-    /// substrate, in whatever order; at the last of them the control job is told to be COMPLETED, and until then a command is open.
+    /// Plays a lot, and gives how many substrates it has, and how many commands ended. Undisturbed these are five Dones for each
+    /// substrate and three for each step of the route of the first process job that names its slot, in whatever order; at the last of
+    /// them the control job is told to be COMPLETED, and until then a command is open.
     /// Disturbed, in the place of a Done that is drawn or as soon behind it as can be, the tool comes to rest, where a module that is
     /// Down is brought up once no command is open. At no step is a substrate at two places; and at rest all are in their slots or
     /// lost, and the control job was told to be COMPLETED.
@@ -231,13 +232,10 @@ impl<T: Tool> Played<T> {
         is_disturbed: bool,
     ) -> Option<Counts> {
         match self.begin(alloc, shape) {
-            Some(substrates)
-                if self.play_begun(alloc, is_disturbed, substrates.saturating_mul(8)) => {
-                Some(Counts {
-                    substrates,
-                    dones: self.ended,
-                })
-            }
+            Some(wanted) if self.play_begun(alloc, is_disturbed, wanted.dones) => Some(Counts {
+                substrates: wanted.substrates,
+                dones: self.ended,
+            }),
             _ => None,
         }
     }

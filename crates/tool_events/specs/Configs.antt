@@ -1,5 +1,5 @@
 -- What a configuration may say (this tool's profile, configuration).
-use Rattle.std.specs.Prelude.{◌≡◌, ◌≤◌, ℕ, ◌==◌, nat_le, Bool, true, ◌&&◌, List, length}
+use Rattle.std.specs.Prelude.{◌≡◌, ◌≤◌, ℕ, nat_le, Bool, true, ◌&&◌, List, length}
 use Rattle.std.specs.List.{list_all, list_any}
 use Rattle.gem_ids.specs.Moments.{last_moment}
 use Rattle.tool_events.specs.declared.config.Config.{Config}
@@ -18,10 +18,6 @@ is_usable chambers r = nat_le 1 (length r.route) && (nat_le (length r.route) mos
 -- each of these has
 abbrev pub are_usable : ℕ → List Recipe → Bool
 are_usable chambers recipes = list_all (is_usable chambers) recipes
-
--- the route of each of these has one step
-abbrev pub have_one_step : List Recipe → Bool
-have_one_step recipes = list_all (λ (r : Recipe). length r.route == 1) recipes
 
 -- the configuration keeps its bounds (this tool's profile, other configurations)
 pub record IsConfig (c : Config) : Type 0 where
@@ -51,5 +47,3 @@ pub record IsConfig (c : Config) : Type 0 where
   pub bytes : c.max_bytes ≤ 536870912
   pub start : c.start_moment.0 ≤ last_moment
   pub recipes : are_usable c.chambers c.recipes ≡ true
-  -- the tool's substrates count no steps yet
-  pub one_step : have_one_step c.recipes ≡ true

@@ -78,7 +78,7 @@ pub struct Config {
     /// The first moment, in hundredths of a second since the beginning of the year 2000, at most 25,245,561,599,999,
     /// the last of the year 9999.
     pub start_moment: Moment,
-    /// The recipes by which the chambers process, 1 to 32. The route of each has one step.
+    /// The recipes by which the chambers process, 1 to 32. The route of each has 1 to 6 steps.
     pub recipes: Recipes,
     /// The port of TCP on which a tool that serves links listens, at least 1 (SEMI E37, connection).
     pub tcp_port: u16,

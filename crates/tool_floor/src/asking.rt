@@ -8,7 +8,8 @@ ghost use Rattle.substrate.specs.Record.{is_needing};
 ghost use Rattle.substrate.specs.Tables.{occupancy_table, transport_table, processing_table};
 ghost use Rattle.floor_model.specs.Naming.{task_processes, processes};
 ghost use Rattle.floor_model.specs.Substrates.{is_outside, is_in_slot, is_removed, is_of};
-ghost use Rattle.floor_model.specs.Wants.{has_outside, is_back, are_back, is_quiet, accessing_wants, location_wants, is_skipped, substrate_wants};
+ghost use Rattle.floor_model.specs.Jobs.{is_stopping, is_aborting};
+ghost use Rattle.floor_model.specs.Wants.{has_outside, is_back, are_back, is_quiet, accessing_wants, location_wants, is_skipped, is_between, is_outside_of, substrate_wants};
 ghost use Rattle.tool_floor.specs.Due.{is_due_at};
 
 use crate::floor::ToolFloor;
@@ -235,6 +236,29 @@ impl ToolFloor {
             && (self.is_in_slot(s) && !self.is_named(s.sub))
     }
 
+    // Whether no open Process command names a substrate where it is IN PROCESS.
+    fn is_between(&self, s: &Substrate) -> bool
+        ensures { result ≡ is_between s.now self.now }
+    {
+        !(s.states.processing.is_in_process() && self.is_processed(s))
+    }
+
+    // Whether a substrate is outside, its process job is STOPPING, and no open Process command names it where it is IN PROCESS.
+    #[inline(never)]
+    pub(crate) fn is_outside_of_stopping(&self, s: &Substrate) -> bool
+        ensures { result ≡ is_outside_of is_stopping s.now self.now }
+    {
+        (self.is_outside(s) && self.is_of_stopping(s)) && self.is_between(s)
+    }
+
+    // The same of one that is ABORTING.
+    #[inline(never)]
+    pub(crate) fn is_outside_of_aborting(&self, s: &Substrate) -> bool
+        ensures { result ≡ is_outside_of is_aborting s.now self.now }
+    {
+        (self.is_outside(s) && self.is_of_aborting(s)) && self.is_between(s)
+    }
+
     // Whether what a row of table 12 or 13 wants is so of a substrate.
     pub(crate) fn substrate_wants(&self, row: RowId, s: &Substrate) -> bool
         ensures transport { row.table ≡ 12 → result ≡ wants_found (λ want. substrate_wants want s.now self.now) (row_of transport_table row.row) }
@@ -245,8 +269,8 @@ impl ToolFloor {
             (Some(Table::Transport), 3) => self.is_in_slot(s),
             (Some(Table::Processing), 2) => self.is_processed(s),
             (Some(Table::Processing), 5) => self.is_skipped(s),
-            (Some(Table::Processing), 6) => self.is_outside(s) && self.is_of_stopping(s),
-            (Some(Table::Processing), 7) => self.is_outside(s) && self.is_of_aborting(s),
+            (Some(Table::Processing), 6) => self.is_outside_of_stopping(s),
+            (Some(Table::Processing), 7) => self.is_outside_of_aborting(s),
             _ => true,
         }
     }

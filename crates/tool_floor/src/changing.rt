@@ -3,7 +3,7 @@
 ghost use Rattle.std.specs.Prelude.{◌≡◌};
 ghost use Rattle.floor_model.specs.Jobs.{joined, freed};
 ghost use Rattle.floor_model.specs.Machines.{substrate_moves};
-ghost use Rattle.floor_model.specs.Modules.{aligned};
+ghost use Rattle.floor_model.specs.Modules.{aligned, one_more, stepped};
 ghost use Rattle.floor_model.specs.Substrates.{is_of};
 
 use crate::members::can_join;
@@ -24,6 +24,28 @@ impl Change<Substrate> for Fires {
 
     fn apply(&self, substrate: &mut Substrate) {
         substrate.states.fire(self.table, self.row);
+        if self.table == 13 && self.row == 3 {
+            substrate.steps = one_more(substrate.steps);
+        }
+    }
+}
+
+// One step more of a route is done; it has at most six.
+fn one_more(steps: u8) -> u8
+    ensures { result ≡ one_more steps }
+{
+    if steps < 6 { steps + 1 } else { steps }
+}
+
+// The next step of its route is done.
+#[derive(Drop)]
+pub(crate) struct Steps;
+
+impl Change<Substrate> for Steps {
+    ghost does = { λ t s. stepped s };
+
+    fn apply(&self, substrate: &mut Substrate) {
+        substrate.steps = one_more(substrate.steps);
     }
 }
 

@@ -4,7 +4,7 @@ ghost use Rattle.std.specs.Prelude.{◌≡◌, ◌∷◌, [], true, false, Some,
 ghost use Rattle.gem_tables.specs.Table.{is_one_of};
 ghost use Rattle.robot_moves.specs.Modules.{module_at};
 ghost use Rattle.floor_model.specs.Views.{planned};
-ghost use Rattle.floor_model.specs.Modules.{issued, open_task, goes, transferred, number_named, aligned_numbered, aligned_by};
+ghost use Rattle.floor_model.specs.Modules.{issued, open_task, goes, transferred, number_named, aligned_numbered, aligned_by, stepped_numbered, stepped_by};
 ghost use Rattle.floor_model.specs.Machines.{moved_by, floor_starts, floor_fired};
 
 use crate::floor::ToolFloor;
@@ -106,6 +106,36 @@ impl ToolFloor {
         }
     }
 
+    // What is done by a task of a Process has the step done, where it isn't the last and its job isn't ABORTING.
+    fn step_by(&mut self, task: &Task)
+        ensures { self.new ≡ stepped_by (Some task.now) self.old }
+    {
+        if let Task::Process { sub, .. } = task {
+            let number = self.number_named(*sub);
+            self.step_numbered(number);
+        }
+    }
+
+    // What the open command of a module processes has.
+    fn step(&mut self, m: ModuleId)
+        ensures { self.new ≡ stepped_by (open_task (module_at m.0 self.old.modules)) self.old }
+    {
+        if let Some(Module::Busy { command, .. }) = self.modules.get(m) {
+            self.step_by(&command.task);
+        }
+    }
+
+    // The next step of the substrate of a number is done, where one is given that goes on to a further step.
+    fn step_numbered(&mut self, number: Option<u64>)
+        ensures { self.new ≡ record self.old { substrates = stepped_numbered number self.old } }
+    {
+        if let Some(number) = number {
+            if self.goes_on(number) {
+                self.substrates.step(number);
+            }
+        }
+    }
+
     // A row of the table of moves fires that starts. `AllocError`: the last number of a command was given; nothing has changed.
     #[inline(never)]
     pub(crate) fn fire_move(&mut self, x: Firing) -> Result<(), AllocError>
@@ -135,6 +165,8 @@ impl ToolFloor {
             self.transfer(m);
         } else if row == 6 {
             self.align(m);
+        } else if row == 7 {
+            self.step(m);
         }
         rows::fire(row, m, &mut self.modules);
     }

@@ -1,12 +1,13 @@
 //! What the modules are to do next (this tool's profile, moves).
 
-ghost use Rattle.std.specs.Prelude.{◌≡◌, ◌≤◌, [], true, false, length, Some, option_copied};
+ghost use Rattle.std.specs.Prelude.{◌≡◌, ◌≤◌, ◌+◌, nat_lt, [], true, false, length, Some, option_copied};
 ghost use Rattle.gem_tables.specs.Machine.{first_ready};
 ghost use Rattle.robot_moves.specs.Modules.{module_at};
 ghost use Rattle.robot_moves.specs.Moves.{next_move};
 ghost use Rattle.floor_model.specs.Floor.{module_numbers};
 ghost use Rattle.floor_model.specs.Jobs.{job_of, is_job_so, is_processing};
-ghost use Rattle.floor_model.specs.Views.{chambers_of, recipe_of, view_of, views, planned};
+ghost use Rattle.floor_model.specs.Views.{route_of, recipe_of, route_for, goes_on, view_of, views, planned};
+ghost use Rattle.tool_tasks.specs.Routes.{step_at};
 ghost use Rattle.floor_model.specs.Modules.{is_by, move_ready, move_starts};
 
 use crate::floor::ToolFloor;
@@ -18,16 +19,38 @@ use process_job::{JobState, ProcessJob};
 use robot_moves::{Module, Move, PlaceView, Planner};
 use substrate::Registered;
 use tool_jobs::Jobs;
-use tool_tasks::Recipe;
+use tool_tasks::{Recipe, Route};
 
-// The set of the chambers of the first step of a recipe, none where there is none.
-fn chambers_of(recipe: Option<Recipe>) -> u8
-    ensures { result ≡ chambers_of recipe }
+// The route of a recipe, with no step where there is none.
+fn route_of(recipe: Option<Recipe>) -> Route
+    ensures { result ≡ route_of recipe }
 {
     match recipe {
-        Some(recipe) => recipe.route.step(0).bits(),
-        None => 0,
+        Some(recipe) => recipe.route,
+        None => Route::none(),
     }
+}
+
+// The set of the chambers of a step of a recipe's route, none where there is none.
+fn chambers_of(recipe: Option<Recipe>, step: u8) -> u8
+    ensures { result ≡ step_at step (route_of recipe) }
+{
+    route_of(recipe).step(step).bits()
+}
+
+// The route of a substrate: that of the recipe of its process job, in a tool with these jobs.
+fn route_for(s: &Substrate, jobs: &Jobs) -> Route
+    ensures { result ≡ route_for s.now jobs.now }
+{
+    let known = jobs.process();
+    route_of(known.recipe(recipe_of(known.numbered(s.job))))
+}
+
+// Whether a step that is done isn't the last of a substrate's route.
+pub(crate) fn has_further_step(s: &Substrate, jobs: &Jobs) -> bool
+    ensures { result ≡ nat_lt (s.now.steps + 1) (length (route_for s.now jobs.now)) }
+{
+    usize::from(s.steps) + 1 < route_for(s, jobs).len()
 }
 
 // The name of the recipe of a process job, empty where there is none.
@@ -65,7 +88,7 @@ pub(crate) fn view_of(r: &Registered, s: &Substrate, jobs: &Jobs) -> PlaceView
         finished: s.states.processing.is_finished(),
         in_process: s.states.processing.is_in_process(),
         may_start: is_processing(job),
-        chambers: chambers_of(jobs.process().recipe(recipe)),
+        chambers: chambers_of(jobs.process().recipe(recipe), s.steps),
         recipe,
     }
 }

@@ -9,7 +9,7 @@ ghost use Rattle.carrier.specs.Carriers.{carrier_numbered};
 ghost use Rattle.substrate.specs.Tables.{occupancy_number, occupancy_table, transport_number, transport_table, processing_number, processing_table};
 ghost use Rattle.shop_floor.specs.Floor.{number_of as carrier_number};
 ghost use Rattle.floor_model.specs.Floor.{ToolFloor, location_at, location_numbers, substrate_numbered, number_of};
-ghost use Rattle.floor_model.specs.Wants.{accessing_wants, location_wants, substrate_wants, ending_row};
+ghost use Rattle.floor_model.specs.Wants.{accessing_wants, location_wants, substrate_wants, stopping_row, ending_row};
 ghost use Rattle.floor_model.specs.Machines.{floor_machines, floor_starts, location_ready};
 ghost use Rattle.tool_floor.specs.Located.{first_accessing, first_location, first_transport, first_processing, NoSubstrates, NoShop};
 
@@ -200,30 +200,45 @@ impl ToolFloor {
     fn processing_row(&self, s: &Substrate) -> Option<u8>
         ensures { result ≡ first_itself processing_number (λ want. substrate_wants want s.now self.now) processing_table s.now.states.processing }
     {
-        if !matches!(s.states.processing, Processing::NeedsProcessing) {
-            return None;
+        match s.states.processing {
+            Processing::NeedsProcessing => {
+                if self.is_processed(s) {
+                    Some(2)
+                } else {
+                    self.ending_row(s)
+                }
+            }
+            Processing::InProcess => self.stopping_row(s),
+            _ => None,
         }
-        if self.is_processed(s) {
-            return Some(2);
-        }
-        self.ending_row(s)
     }
 
     // The row of table 13 by which a substrate that NEEDS PROCESSING ends with its process job.
     fn ending_row(&self, s: &Substrate) -> Option<u8>
         ensures { result ≡ ending_row s.now self.now }
     {
-        let stops = self.is_of_stopping(s);
-        if !stops && !self.is_of_aborting(s) {
-            return None;
-        }
         if self.is_skipped(s) {
-            return Some(5);
+            Some(5)
+        } else {
+            self.stopping_row(s)
         }
-        if !self.is_outside(s) {
+    }
+
+    // The row of table 13 by which a substrate outside ends with its process job.
+    fn stopping_row(&self, s: &Substrate) -> Option<u8>
+        ensures { result ≡ stopping_row s.now self.now }
+    {
+        // the few jobs are asked first, since most end nothing
+        if !self.is_of_stopping(s) && !self.is_of_aborting(s) {
             return None;
         }
-        Some(if stops { 6 } else { 7 })
+        if self.is_outside_of_stopping(s) {
+            Some(6)
+        } else if self.is_outside_of_aborting(s) {
+            Some(7)
+        } else {
+            None
+        }
     }
 
     // The row of table 12 or 13 that is ready at a substrate.

@@ -47,6 +47,7 @@ impl ToolFloor {
                 slot: loc,
                 states: SubstrateRecord::new(),
                 aligned: false,
+                steps: 0,
                 job: 0,
             }),
             Err(PlaceFault::NoMemory) => Err(AllocError),

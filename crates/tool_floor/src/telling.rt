@@ -5,10 +5,13 @@ ghost use Rattle.std.specs.Prelude.{◌≡◌, ◌≤◌, ◌∷◌, ◌++◌, [
 ghost use Rattle.std.specs.Option.{option_to_list};
 ghost use Rattle.std.specs.List.{list_any};
 ghost use Rattle.robot_moves.specs.Modules.{module_at};
+ghost use Rattle.floor_model.specs.Floor.{substrate_numbered};
 ghost use Rattle.floor_model.specs.Naming.{named_by, module_names};
+ghost use Rattle.floor_model.specs.Views.{goes_on};
 ghost use Rattle.floor_model.specs.Signals.{at_module, at_processed, processed_rows, done_at, done_rows, closing_at, closing_rows, done_processing, at_done, done_processed, can_be_lost, lost_at, lost_rows};
 
 use crate::floor::ToolFloor;
+use crate::planning::has_further_step;
 use crate::rows::done_row;
 use arrayvec::ArrayVec;
 use floor_model::Substrate;
@@ -87,17 +90,40 @@ impl ToolFloor {
     {
         match task {
             Task::Process { sub, .. } => match self.number_named(*sub) {
-                Some(number) => {
-                    Some(Firing::of(Table::Processing, number, self.done_processing(number)))
-                }
+                Some(number) => self.row_at_done(number),
                 None => None,
             },
             _ => None,
         }
     }
 
-    /// The rows that Done of the open command of a module fires: row 5, 6 or 7 of table 16 by its task, and behind a Process row 3 of
-    /// processing, or row 4 where the process job of its substrate is ABORTING. There are none exactly where it has no open command.
+    // Whether the substrate of a number that was processed goes on to a further step of its route: its process job isn't ABORTING,
+    // and the step isn't the last.
+    pub(crate) fn goes_on(&self, number: u64) -> bool
+        ensures { result ≡ goes_on (substrate_numbered number self.now.substrates) self.now }
+    {
+        match self.substrates.known(number) {
+            Some(substrate) => {
+                !self.is_of_aborting(substrate) && has_further_step(substrate, &self.jobs)
+            }
+            None => false,
+        }
+    }
+
+    // The row of processing of the substrate of a number that was processed, where it doesn't go on.
+    fn row_at_done(&self, number: u64) -> Option<Firing>
+        ensures { option_to_list result ≡ at_done (Some number) self.now }
+    {
+        if self.goes_on(number) {
+            None
+        } else {
+            Some(Firing::of(Table::Processing, number, self.done_processing(number)))
+        }
+    }
+
+    /// The rows that Done of the open command of a module fires: row 5, 6 or 7 of table 16 by its task, and behind a Process row 4 of
+    /// processing where the process job of its substrate is ABORTING, and else row 3 where the step was the last of its route. There are
+    /// none exactly where it has no open command.
     pub fn done_rows(&self, m: ModuleId) -> ArrayVec<Firing, 2>
         ensures { result.items ≡ done_rows m.0 self.now }
     {

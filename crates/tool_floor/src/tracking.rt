@@ -8,10 +8,10 @@ ghost use Rattle.substrate.specs.Record.{is_needing};
 ghost use Rattle.floor_model.specs.Floor.{substrate_numbered, change_numbered};
 ghost use Rattle.floor_model.specs.Machines.{substrate_moves};
 ghost use Rattle.floor_model.specs.Substrates.{is_of};
-ghost use Rattle.floor_model.specs.Modules.{aligned};
+ghost use Rattle.floor_model.specs.Modules.{aligned, stepped};
 ghost use Rattle.floor_model.specs.Jobs.{joined, freed};
 
-use crate::changing::{Aligns, Fires, Frees, IsOf, Joins};
+use crate::changing::{Aligns, Fires, Frees, IsOf, Joins, Steps};
 use floor_model::Substrate;
 use gem_ids::SubstrateId;
 use process_job::ProcessJob;
@@ -118,6 +118,13 @@ impl Substrates {
         ensures { self.new ≡ change_numbered number aligned self.old }
     {
         self.book.change_numbered(number, &Aligns);
+    }
+
+    // The next step of the route of the substrate of a number is done.
+    pub(crate) fn step(&mut self, number: u64)
+        ensures { self.new ≡ change_numbered number stepped self.old }
+    {
+        self.book.change_numbered(number, &Steps);
     }
 
     // Those that a process job names become its members, where they can.

@@ -41,7 +41,6 @@ worked_is = record {
   bytes = omega arith;
   start = omega arith;
   recipes = refl;
-  one_step = refl;
 }
 
 -- a run that reads no input does nothing under a configuration

@@ -16,9 +16,9 @@ pub enum Kind {
     Chamber,
     /// It is in a chamber, which processes it; the chamber is busy.
     AtWork,
-    /// It is back in its slot, and its Process was done.
+    /// It is back in its slot, and its last Process was done.
     Finished,
-    /// It is back in its slot, and no Process of it was done.
+    /// It is back in its slot, and its last Process was not done, or it had none.
     Unfinished,
     /// The operator said that it is lost.
     Lost,

@@ -22,7 +22,7 @@ enum Whereabouts {
     Work(usize),
 }
 
-// A substrate that is in the tool: its name, its carrier, its row, where it is, and whether a Process of it was done.
+// A substrate that is in the tool: its name, its carrier, its row, where it is, and whether the last Process of it was done.
 #[derive(Clone, Copy)]
 struct Wafer {
     name: Text80,
@@ -125,6 +125,19 @@ fn is_done_now(happening: &Happening, at: Whereabouts) -> bool {
             usize::from(*module) == place.saturating_add(3)
         }
         _ => false,
+    }
+}
+
+// Whether the last Process of a substrate was done, where it was so before or not: what happens brings it from one place to the next.
+fn is_done_behind(
+    is_done: bool,
+    happening: &Happening,
+    at: Whereabouts,
+    next: Whereabouts,
+) -> bool {
+    match next {
+        Whereabouts::Work(_) => false,
+        _ => is_done || is_done_now(happening, at),
     }
 }
 
@@ -382,7 +395,7 @@ impl Teller {
         for wafer in &mut self.wafers {
             let next = place_of(shot, wafer.name);
             if next != wafer.at {
-                wafer.is_done = wafer.is_done || is_done_now(happening, wafer.at);
+                wafer.is_done = is_done_behind(wafer.is_done, happening, wafer.at, next);
                 wafer.at = next;
                 if let Some(lane) = self.story.substrates.get_mut(wafer.lane) {
                     draw_at(lane, at, kind_at(next, wafer.is_done))?;

@@ -1,6 +1,5 @@
 pub mod Lists
 pub mod Staying
-pub mod Telling
 pub mod Standing
 pub mod Resting
 pub mod Chambers

@@ -8,7 +8,7 @@ use Rattle.gem_ids.specs.declared.numbers.LocId.{LocId}
 use Rattle.gem_ids.specs.declared.numbers.LocId.TheVariants.{Aligner, Arm, Chamber}
 use Rattle.tool_tasks.specs.declared.task.Task.TheVariants as task
 use Rattle.robot_moves.specs.Modules.{module_at, is_idle, chamber_module}
-use Rattle.robot_moves.specs.Moves.{holder, free_target, is_useful, best_pick, move_by, place_move, pick_move, arm_move, robot_move, align_move, aligner_move, process_move, chamber_move, module_move, next_move}
+use Rattle.robot_moves.specs.Moves.{holder, free_target, is_useful, best_pick, move_by, place_move, pick_move, arm_move, robot_move, align_move, aligner_move, is_next, process_move, chamber_move, module_move, next_move}
 use Rattle.robot_moves.specs.declared.view.PlaceView.{PlaceView}
 use Rattle.robot_moves.proofs.Best.{none_is}
 use Rattle.substrate.specs.Locations.{is_same}
@@ -46,12 +46,6 @@ is_needing_state : (p : Processing) → (processing_number p == 0) ≡ true → 
 is_needing_state processing.NeedsProcessing e = refl
 is_needing_state _ e = absurd (cc)
 
--- what is unfinished and isn't IN PROCESS NEEDS PROCESSING
-needs : (needing begun : Bool) → not (needing || begun) ≡ false → begun ≡ false → needing ≡ true
-needs true begun u e = refl
-needs false true u e = absurd (cc)
-needs false false u e = absurd (cc)
-
 -- where no row of table 13 is ready, one that NEEDS PROCESSING isn't skipped
 none_skipped : (f : ToolFloor) (s : Substrate) (p : Processing) → p ≡ processing.NeedsProcessing → first_itself processing_number (λ w. substrate_wants w s f) processing_table p ≡ None → is_skipped s f ≡ false
 none_skipped f s p is e =
@@ -74,8 +68,7 @@ none_planned f e m least most = none_of (λ (n : ℕ). module_move n (views f) f
 module _ (f : ToolFloor) (b : Base f) (v : Valid (picture f)) (many : length f.modules ≡ 2 + f.places.chambers)
     (idles : (m : ℕ) → 1 ≤ m → m ≤ length f.modules → is_idle (module_at m f.modules) ≡ true)
     (none : (m : ℕ) → 1 ≤ m → m ≤ length f.modules → planned m f ≡ None)
-    (rests : (n : ℕ) (s : Substrate) → substrate_numbered n f.substrates ≡ Some s → first_itself processing_number (λ w. substrate_wants w s f) processing_table s.states.processing ≡ None)
-    (unprocessed : (n : ℕ) → ((picture f).processing n == 1) ≡ false) where
+    (rests : (n : ℕ) (s : Substrate) → substrate_numbered n f.substrates ≡ Some s → first_itself processing_number (λ w. substrate_wants w s f) processing_table s.states.processing ≡ None) where
   -- ---- the robot
 
   no_arm_move : arm_move (views f) f.modules (holder Arm (views f)) ≡ None
@@ -85,7 +78,7 @@ module _ (f : ToolFloor) (b : Base f) (v : Valid (picture f)) (many : length f.m
   no_place : (n : ℕ) → (picture f).place_of n ≡ Some arm → HasTarget n (picture f) → ⊥
   no_place n at has =
       let w = shown f b v many idles n Arm at in
-      let some : is_some (free_target (views f) f.modules w.0) ≡ true = target_there f b v many idles n w.0 w.1.seen w.1.tells has in
+      let some : is_some (free_target (views f) f.modules w.0) ≡ true = target_there f b v many idles n w.0 w.1.seen has in
       let nothing : place_move (views f) f.modules w.0 ≡ None = sym (ap (arm_move (views f) f.modules) w.1.held) ∙ no_arm_move in
       let no_target : free_target (views f) f.modules w.0 ≡ None = mapped_none (λ (loc : LocId). move_by 1 1 (task.Place w.0.sub loc)) (free_target (views f) f.modules w.0) nothing in
       let not_some : is_some (free_target (views f) f.modules w.0) ≡ false = ap (λ (o : Option LocId). is_some o) no_target in
@@ -103,7 +96,7 @@ module _ (f : ToolFloor) (b : Base f) (v : Valid (picture f)) (many : length f.m
       of : (loc : LocId) → (picture f).place_of n ≡ Some (loc_of loc) → MayLeave n (loc_of loc) (picture f) → ⊥
       of loc at may =
           let w = shown f b v many idles n loc at in
-          let some : is_useful (views f) f.modules w.0 ≡ true = useful_there f b v many idles n w.0 w.1.seen w.1.tells loc w.1.at at may has in
+          let some : is_useful (views f) f.modules w.0 ≡ true = useful_there f b v many idles n w.0 w.1.seen loc w.1.at at may has in
           let not_some : is_useful (views f) f.modules w.0 ≡ false = (found_so (λ (x : PlaceView). is_useful (views f) f.modules x ≡ false) (λ (x : PlaceView). is_same x.at loc) (views f) w.0 (none_is (views f) f.modules no_best) w.1.held).0 in
           cc
 
@@ -136,19 +129,18 @@ module _ (f : ToolFloor) (b : Base f) (v : Valid (picture f)) (many : length f.m
   -- row 4
   no_process : (n c : ℕ) → (picture f).place_of n ≡ Some (chamber c) → law.is_finished ((picture f).processing n) ≡ false → is_one_of (law.next_step n (picture f)) c ≡ true → ⊥
   no_process n c at unfinished due =
-      let e = needs ((picture f).processing n == 0) ((picture f).processing n == 1) unfinished (unprocessed n) in
       let known = within 1 f.places.chambers c (v.places.chambers n c at) in
       let least = known.0 in
       let more = known.1 in
       let most : chamber_module c ≤ length f.modules = omega (arith, more, many) in
       let w = shown f b v many idles n (Chamber c) at in
-      let begun : w.0.in_process ≡ false = w.1.tells.needing (ap (λ (k : ℕ). (picture f).processing k == 0) w.1.seen.number ∙ e) in
-      let neither : (not w.0.finished && not w.0.in_process) ≡ true = and_from (not w.0.finished) (not w.0.in_process) (ap (λ (x : Bool). not x) (sym w.1.seen.finished ∙ unfinished)) (ap (λ (x : Bool). not x) begun) in
       let number : chamber_module c - 2 ≡ c = omega arith in
+      let next : is_next w.0 (chamber_module c - 2) ≡ true = ap (is_next w.0) number ∙ sym (w.1.seen.next (v.members.outside n (ap law.is_outside at)) c) ∙ due in
+      let both : (not w.0.finished && is_next w.0 (chamber_module c - 2)) ≡ true = and_from (not w.0.finished) (is_next w.0 (chamber_module c - 2)) (ap (λ (x : Bool). not x) (sym w.1.seen.finished ∙ unfinished)) next in
       let nothing : chamber_move (chamber_module c) (views f) f.modules ≡ None = sym (chamber_planned c least) ∙ none (chamber_module c) (omega arith) most in
       let behind : process_move (chamber_module c) (holder (Chamber (chamber_module c - 2)) (views f)) ≡ None = where_none (is_idle (module_at (chamber_module c) f.modules)) (process_move (chamber_module c) (holder (Chamber (chamber_module c - 2)) (views f))) nothing (idles (chamber_module c) (omega arith) most) in
       let here : process_move (chamber_module c) (Some w.0) ≡ None = sym (ap (λ (d : ℕ). process_move (chamber_module c) (holder (Chamber d) (views f))) number ∙ ap (process_move (chamber_module c)) w.1.held) ∙ behind in
-      let no_move : Some (move_by (chamber_module c) 4 (task.Process w.0.sub w.0.recipe)) ≡ None = where_none (not w.0.finished && not w.0.in_process) (Some (move_by (chamber_module c) 4 (task.Process w.0.sub w.0.recipe))) here neither in
+      let no_move : Some (move_by (chamber_module c) 4 (task.Process w.0.sub w.0.recipe)) ≡ None = where_none (not w.0.finished && is_next w.0 (chamber_module c - 2)) (Some (move_by (chamber_module c) 4 (task.Process w.0.sub w.0.recipe))) here both in
       cc
 
   -- ---- table 13

@@ -1,33 +1,35 @@
 -- What stands where by numbers stands there for the planner: who is seen at a place, which modules are Idle, which targets are free, and who
 -- may leave.
-use Rattle.std.proofs.Common.{◌≡◌, ◌≤◌, ◌<◌, ℕ, zero, suc, ◌+◌, ◌==◌, Bool, true, false, ◌||◌, ◌&&◌, not, if◌then◌else◌, List, [], ◌∷◌, find, length, Option, Some, None, option_map, is_some, slice_get, refl, sym, ◌∙◌, ap, subst, arith}
+use Rattle.std.proofs.Common.{◌≡◌, ◌≤◌, ◌<◌, ℕ, zero, suc, ◌+◌, ◌==◌, nat_le, Bool, true, false, ◌||◌, ◌&&◌, not, if◌then◌else◌, List, [], ◌∷◌, find, length, Option, Some, None, option_map, is_some, slice_get, refl, sym, ◌∙◌, ap, subst, arith}
 use Rattle.std.specs.Option.{option_or}
 use Rattle.std.proofs.lemmas.Bool.{and_parts, and_from}
-use Rattle.std.proofs.lemmas.Bool.Decides.{Decides-eqb}
+use Rattle.std.proofs.lemmas.Bool.Decides.{Decides-eqb, nat_tests}
 use Rattle.gem_tables.specs.Table.{is_one_of}
 use Rattle.gem_ids.specs.declared.numbers.LocId.{LocId}
 use Rattle.gem_ids.specs.declared.numbers.LocId.TheVariants.{Slot, Aligner, Arm, Chamber}
 use Rattle.robot_moves.specs.Modules.{module_at, is_idle, chamber_module}
 use Rattle.tool_tasks.specs.Chambers.{has_chamber}
-use Rattle.robot_moves.specs.Moves.{first_of, holder, is_empty, is_free, chamber_where_free, free_chamber, where_free, free_target, may_leave, is_useful}
+use Rattle.robot_moves.specs.Moves.{first_of, holder, is_empty, is_free, chamber_where_free, free_chamber, where_free, free_target, is_next, may_leave, is_useful}
 use Rattle.robot_moves.specs.declared.module.Module.{Module as ToolModule}
 use Rattle.robot_moves.specs.declared.view.PlaceView.{PlaceView}
 use Rattle.substrate.specs.Locations.{is_same}
 use Rattle.substrate.specs.declared.registered.Registered.{Registered}
-use Rattle.floor_model.specs.Floor.{ToolFloor}
+use Rattle.process_job.specs.Jobs.{recipe_named}
+use Rattle.process_job.specs.declared.job.ProcessJob.{ProcessJob}
+use Rattle.floor_model.specs.declared.tracked.Substrate.{Substrate}
+use Rattle.floor_model.specs.Floor.{ToolFloor, substrate_numbered}
+use Rattle.floor_model.specs.Jobs.{job_of}
 use Rattle.floor_model.specs.Views.{views}
 use Rattle.floor_moves.specs.Floor as law
 use Rattle.floor_moves.specs.Floor.{Loc, slot, own}
 use Rattle.floor_moves.specs.Rest.{HasTarget, MayLeave}
 use Rattle.floor_moves.specs.Valid.{Empty, Valid}
-use Rattle.place_laws.specs.Picture.{picture, loc_of, numbers_from}
+use Rattle.place_laws.specs.Picture.{picture, loc_of, numbers_from, steps_in, of_one, of_job}
 use Rattle.place_laws.specs.Sound.{Base}
-use Rattle.floor_laws.proofs.IssueHeld.{found_so, none_any}
+use Rattle.floor_laws.proofs.IssueHeld.{none_any}
 use Rattle.floor_laws.proofs.IssueViews.{IsSeen, holder_seen, none_seen}
 use Rattle.work_laws.proofs.Lists.{none_of}
-use Rattle.work_laws.proofs.Telling.{Tells, views_tell}
 use Rattle.place_laws.proofs.Names.{same_loc}
-use Rattle.place_laws.proofs.OneStep.{through_finished}
 
 -- ---- numbers of chambers and modules
 
@@ -70,6 +72,17 @@ module _ (vs : List PlaceView) (ms : List ToolModule) (w : PlaceView) where
 
 -- ---- by numbers
 
+-- one with a chamber in its next step is in a job
+next_member : (f : ToolFloor) (n c : ℕ) → is_one_of (law.next_step n (picture f)) c ≡ true → (picture f).jobs.is_member n ≡ true
+next_member f n c e = of (substrate_numbered n f.substrates) e where
+  of_its : (steps : ℕ) (o : Option ProcessJob) → is_one_of (law.step_at steps (of_one [] (λ (j : ProcessJob). steps_in (recipe_named j.recipe f.jobs.process.recipes)) o)) c ≡ true → of_one false (λ (j : ProcessJob). true) o ≡ true
+  of_its steps None e = absurd (cc)
+  of_its steps (Some j) e = refl
+
+  of : (o : Option Substrate) → is_one_of (law.step_at (of_one 0 (λ (s : Substrate). s.steps) o) (of_one [] (of_job [] (λ j. steps_in (recipe_named j.recipe f.jobs.process.recipes)) f.jobs) o)) c ≡ true → of_one false (of_job false (λ j. true) f.jobs) o ≡ true
+  of None e = absurd (cc)
+  of (Some s) e = of_its s.steps (job_of s f.jobs) e
+
 module _ (f : ToolFloor) (b : Base f) (v : Valid (picture f)) (many : length f.modules ≡ 2 + f.places.chambers)
     (idles : (m : ℕ) → 1 ≤ m → m ≤ length f.modules → is_idle (module_at m f.modules) ≡ true) where
   -- ---- modules
@@ -86,7 +99,6 @@ module _ (f : ToolFloor) (b : Base f) (v : Valid (picture f)) (many : length f.m
   pub record IsShown (n : ℕ) (loc : LocId) (w : PlaceView) : Type 0 where
     pub held : holder loc (views f) ≡ Some w
     pub seen : IsSeen f n w
-    pub tells : Tells f w
     pub at : w.at ≡ loc
 
   pub shown : (n : ℕ) (loc : LocId) → (picture f).place_of n ≡ Some (loc_of loc) → (w : PlaceView) × IsShown n loc w
@@ -98,7 +110,7 @@ module _ (f : ToolFloor) (b : Base f) (v : Valid (picture f)) (many : length f.m
         let seen : IsSeen f its.0.0 w = its.0.1 in
         let here : (picture f).place_of its.0.0 ≡ Some (loc_of loc) = seen.at ∙ ap (λ (l : LocId). Some (loc_of l)) its.1 in
         let same : its.0.0 ≡ n = v.places.apart its.0.0 n (loc_of loc) here at in
-        (w, record { held = e; seen = subst (λ (k : ℕ). IsSeen f k w) same seen; tells = (found_so (Tells f) (λ (x : PlaceView). is_same x.at loc) (views f) w (views_tell f b) e).0; at = its.1 })
+        (w, record { held = e; seen = subst (λ (k : ℕ). IsSeen f k w) same seen; at = its.1 })
 
   -- where nobody is nobody is seen
   pub none_held : (loc : LocId) → Empty (loc_of loc) (picture f) → holder loc (views f) ≡ None
@@ -122,7 +134,7 @@ module _ (f : ToolFloor) (b : Base f) (v : Valid (picture f)) (many : length f.m
 
   -- ---- targets
 
-  module _ (n : ℕ) (w : PlaceView) (s : IsSeen f n w) (t : Tells f w) where
+  module _ (n : ℕ) (w : PlaceView) (s : IsSeen f n w) where
     -- what the target is, by whether it is finished and aligned
     abbrev target_by : Bool → Bool → Option LocId
     target_by finished is_aligned = if finished then Some w.slot else (if not is_aligned then Some Aligner else option_map (λ (c : ℕ). Chamber c) (free_chamber (views f) f.modules w))
@@ -150,9 +162,12 @@ module _ (f : ToolFloor) (b : Base f) (v : Valid (picture f)) (many : length f.m
           (and_from (is_empty Aligner (views f)) (is_idle (module_at 2 f.modules)) (empty_there Aligner ((has.1 (s.finished ∙ p)).at_aligner (s.aligned ∙ q))) aligner_there))
       of false p true q =
           let c = (has.1 (s.finished ∙ p)).in_chamber (s.aligned ∙ q) in
-          let chosen = t.chambers c.0 (ap (λ (k : ℕ). is_one_of (law.next_step k (picture f)) c.0) s.number ∙ c.1) in
+          let next = and_parts (nat_le 1 c.0 && nat_le c.0 8) (has_chamber w.chambers c.0) (sym (s.next (next_member f n c.0 c.1) c.0) ∙ c.1) in
+          let lies = next.0 in
+          let least : 1 ≤ c.0 = grind (arith, nat_tests, lies) in
+          let most : c.0 ≤ 8 = grind (arith, nat_tests, lies) in
           let open_there : is_free (views f) f.modules (Chamber c.0) ≡ true = and_from (is_empty (Chamber c.0) (views f)) (is_idle (module_at (chamber_module c.0) f.modules)) (empty_there (Chamber c.0) c.3) (chamber_there c.0 c.2) in
-          by_aligned true p q (chamber_target (views f) f.modules w c.0 chosen.least chosen.most (and_from (has_chamber w.chambers c.0) (is_free (views f) f.modules (Chamber c.0)) chosen.has open_there))
+          by_aligned true p q (chamber_target (views f) f.modules w c.0 least most (and_from (has_chamber w.chambers c.0) (is_free (views f) f.modules (Chamber c.0)) next.1 open_there))
 
     -- ---- who may leave
 
@@ -165,7 +180,13 @@ module _ (f : ToolFloor) (b : Base f) (v : Valid (picture f)) (many : length f.m
         and_from (is_idle (module_at 2 f.modules)) (w.finished || w.aligned) aligner_there
         (ap (λ (x : Bool). x || w.aligned) (sym s.finished) ∙ ap (λ (x : Bool). law.is_finished ((picture f).processing n) || x) (sym s.aligned) ∙ may)
     leaves_there Arm at may = absurd may
-    leaves_there (Chamber c) at may = and_from (is_idle (module_at (chamber_module c) f.modules)) w.finished (chamber_there c (v.places.chambers n c at)) (sym s.finished ∙ through_finished f v n c at may)
+    leaves_there (Chamber c) at may =
+        and_from (is_idle (module_at (chamber_module c) f.modules)) (w.finished || not (is_next w c)) (chamber_there c (v.places.chambers n c at))
+        (of w.finished (λ unfinished. sym (s.next (v.members.outside n (ap law.is_outside at)) c) ∙ may (s.finished ∙ unfinished)) refl)
+      where
+        of : (b : Bool) → (w.finished ≡ false → is_next w c ≡ false) → w.finished ≡ b → (b || not (is_next w c)) ≡ true
+        of true none e = refl
+        of false none e = ap not (none e)
 
     -- its pick is useful
     pub useful_there : (loc : LocId) → w.at ≡ loc → (picture f).place_of n ≡ Some (loc_of loc) → MayLeave n (loc_of loc) (picture f) → HasTarget n (picture f) → is_useful (views f) f.modules w ≡ true

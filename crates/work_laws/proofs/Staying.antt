@@ -45,7 +45,7 @@ use Rattle.floor_model.specs.declared.tracked.Substrate.{Substrate}
 use Rattle.floor_model.specs.Floor.{ToolFloor, opening, with_shop, with_jobs, with_module, fetched, substrate_numbered}
 use Rattle.floor_model.specs.Jobs.{job_does, found_job_does}
 use Rattle.floor_model.specs.Machines.{taken_along, registered_by, with_moved, floor_fired}
-use Rattle.floor_model.specs.Modules.{command, issued, goes, transferred, open_task, aligned_by, module_behind, move_does, found_move}
+use Rattle.floor_model.specs.Modules.{command, issued, goes, transferred, open_task, aligned_by, stepped_by, module_behind, move_does, found_move}
 use Rattle.floor_model.specs.Substrates.{can_register, first_substrate, registers_at, registers_slot, registers_slots, registers_at_port, registers_found, reaches_verified, without_carrier, substrate_does, found_does}
 use Rattle.floor_model.specs.Views.{planned}
 use Rattle.floor_laws.proofs.IssueSound.{changed_many}
@@ -220,6 +220,13 @@ aligned_where (Some (task.Place sub to)) f = itself f
 aligned_where (Some (task.Align sub)) f = record { modules = refl; chambers = refl; recipes = refl; jobs = λ rs all. all }
 aligned_where (Some (task.Process sub recipe)) f = itself f
 
+stepped_where : (o : Option Task) (f : ToolFloor) → Stays f (stepped_by o f)
+stepped_where None f = itself f
+stepped_where (Some (task.Pick sub from)) f = itself f
+stepped_where (Some (task.Place sub to)) f = itself f
+stepped_where (Some (task.Align sub)) f = itself f
+stepped_where (Some (task.Process sub recipe)) f = record { modules = refl; chambers = refl; recipes = refl; jobs = λ rs all. all }
+
 move_done : (e : MoveEffect) (number : ℕ) (plan : Option Move) (f : ToolFloor) → Stays f (move_does e number plan f)
 move_done want.no_more number plan f = itself f
 move_done want.issues_place number plan f = given_where number plan f
@@ -228,6 +235,7 @@ move_done want.issues_align number plan f = given_where number plan f
 move_done want.issues_process number plan f = given_where number plan f
 move_done want.moves number plan f = record { modules = refl; chambers = moved_within (open_task (module_at number f.modules)) f.places; recipes = refl; jobs = λ rs all. all }
 move_done want.aligns number plan f = aligned_where (open_task (module_at number f.modules)) f
+move_done want.steps number plan f = stepped_where (open_task (module_at number f.modules)) f
 move_done want.closes number plan f = itself f
 move_done want.clears_alarm number plan f = itself f
 

@@ -20,7 +20,6 @@ use Rattle.floor_model.specs.Floor.{ToolFloor, substrate_numbered, number_of}
 use Rattle.floor_model.specs.Floor.{RiseTo}
 use Rattle.floor_model.specs.Jobs.{is_member, is_done_with, is_settled, job_of, is_processing, is_stopping, is_aborting, is_ending}
 use Rattle.floor_model.specs.Machines.{floor_least, substrate_ready}
-use Rattle.floor_model.specs.Naming.{processes}
 use Rattle.floor_model.specs.Substrates.{is_outside, is_in_slot, is_removed}
 use Rattle.floor_model.specs.Views.{views}
 use Rattle.floor_model.proofs.AtRest.{rests, none_ready}
@@ -33,10 +32,8 @@ use Rattle.floor_moves.specs.Work.{IsOpen}
 use Rattle.floor_moves.specs.Rest.{AtRest}
 use Rattle.floor_moves.proofs.Waiting.{command_is_open}
 use Rattle.place_laws.specs.Picture.{picture, module_of, of_one, of_job}
-use Rattle.place_laws.specs.Processed.{has_process, AreProcessed}
 use Rattle.place_laws.specs.Sound.{Sound}
 use Rattle.place_laws.proofs.Holding.{found_among}
-use Rattle.floor_laws.proofs.EndOpen.{processes_busy}
 use Rattle.floor_laws.proofs.JobLists.{job_number_is}
 use Rattle.floor_laws.proofs.JobSight.{any_at, kept_here, outside_same, removed_from, in_slot_from}
 use Rattle.floor_laws.proofs.JobWork.{finished_same}
@@ -181,7 +178,7 @@ module _ (f : ToolFloor) (sound : Sound f) where
 
 -- ---- the floor by numbers is at rest
 
-module _ (f : ToolFloor) (sound : Sound f) (processed : AreProcessed f.modules f.substrates) (equipped : Equipped f) (rest : floor_least f ≡ None) where
+module _ (f : ToolFloor) (sound : Sound f) (equipped : Equipped f) (rest : floor_least f ≡ None) where
   -- so it is at rest, where each module is Idle and no command is open
   still : ((m : ℕ) → 1 ≤ m → m ≤ length f.modules → is_idle (module_at m f.modules) ≡ true) → ((m : ℕ) (c : Command) → (picture f).equipment m ≡ busy c → ⊥) → AtRest (picture f)
   still idles none =
@@ -189,19 +186,6 @@ module _ (f : ToolFloor) (sound : Sound f) (processed : AreProcessed f.modules f
       at_rest f sound.base sound.valid equipped.modules idles (none_planned f nothing)
       (λ n s found. sym (ap (λ (o : Option Substrate). substrate_ready processing_number processing_table (λ s. s.processing) o f) found)
       ∙ (none_ready f rest).processing n (found_among number_of n f.substrates s found))
-      (λ n. false_from_ne_true ((picture f).processing n == 1) (λ e. of n (substrate_numbered n f.substrates) refl (processed n) e))
-    where
-      running : (p : Processing) → (processing_number p == 1) ≡ true → is_in_process p ≡ true
-      running processing.InProcess e = refl
-      running _ e = absurd (true≢false (sym e))
-
-      -- one that is IN PROCESS has an open Process
-      of : (n : ℕ) (o : Option Substrate) → substrate_numbered n f.substrates ≡ o → of_one true (has_process f.modules) o ≡ true → (of_one 0 (λ (s : Substrate). processing_number s.states.processing) o == 1) ≡ true → ⊥
-      of n None q has e = absurd (true≢false (sym e))
-      of n (Some s) q has e =
-          let open_one = sym (ap (λ (b : Bool). not b || list_any (processes s.sub) f.modules) (running s.states.processing e)) ∙ has in
-          let w = processes_busy f sound.base sound.valid.commands n s q open_one in
-          none w.0 w.1 w.2
 
 -- ---- modules
 
@@ -225,7 +209,7 @@ open_there f is = of is.0 is.1 (module_at is.0 f.modules) refl is.2 where
 
 -- ---- the law
 
-pub open_while_work : (f : ToolFloor) → Sound f → AreProcessed f.modules f.substrates → Equipped f → floor_least f ≡ None → is_any_down f.modules ≡ false → is_work_left f ≡ true → is_any_open f.modules ≡ true
-open_while_work f sound processed equipped rests up work =
+pub open_while_work : (f : ToolFloor) → Sound f → Equipped f → floor_least f ≡ None → is_any_down f.modules ≡ false → is_work_left f ≡ true → is_any_open f.modules ≡ true
+open_while_work f sound equipped rests up work =
     let w = work_left f sound work in
-    open_there f (command_is_open (picture f) w.n sound.valid (have_chambers f equipped) (λ none. still f sound processed equipped rests (all_idle f up none) none) w.kept w.left)
+    open_there f (command_is_open (picture f) w.n sound.valid (have_chambers f equipped) (λ none. still f sound equipped rests (all_idle f up none) none) w.kept w.left)

@@ -10,20 +10,19 @@ ghost use Rattle.control_job.specs.Jobs.{JobStore};
 ghost use Rattle.shop_floor.specs.Floor.{Floor};
 ghost use Rattle.floor_model.specs.Floor.{ToolFloor, opening, with_shop, with_jobs, fetched};
 ghost use Rattle.floor_model.specs.Machines.{floor_fired, floor_least};
-ghost use Rattle.place_laws.specs.Processed.{AreProcessed};
 ghost use Rattle.place_laws.specs.Sound.{Sound};
 ghost use Rattle.tool_events.specs.Configs.{are_usable};
 ghost use Rattle.work_laws.specs.Equipped.{most_chambers, Equipped};
 ghost use Rattle.work_laws.specs.Work.{is_work_left, is_any_down, is_any_open};
 
-/// Where no row of the floor is ready by itself, an open Process names each substrate that is IN PROCESS, no module is Down and work is
-/// left, a command is open: the tool never stands still with work to do. That the equipment answers it is not promised.
+/// Where no row of the floor is ready by itself, no module is Down and work is left, a command is open: the tool never stands still with
+/// work to do, whatever the routes. That the equipment answers it is not promised.
 pub fn a_command_is_open_while_work_is_left()
-    ensures { (f : ToolFloor) → Sound f → AreProcessed f.modules f.substrates → Equipped f → floor_least f ≡ None
+    ensures { (f : ToolFloor) → Sound f → Equipped f → floor_least f ≡ None
         → is_any_down f.modules ≡ false → is_work_left f ≡ true → is_any_open f.modules ≡ true }
 {}
 
-/// What the tool has for its process jobs it has as it begins, where each recipe has one of its chambers; and that is kept by each
+/// What the tool has for its process jobs it has as it begins, where each step of each recipe has one of its chambers; and that is kept by each
 /// row, where a command is fetched, however load ports and carriers change, where a process job is created against which no fault
 /// stands, and however control jobs change.
 pub fn the_tool_stays_equipped()

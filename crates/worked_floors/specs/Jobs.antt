@@ -2,6 +2,11 @@
 use Rattle.std.specs.Prelude.{ℕ, Bool, true, List, [], ◌∷◌, codes}
 use Rattle.gem_tables.specs.Table.{firing}
 use Rattle.gem_tables.specs.declared.firing.Firing.{Firing}
+use Rattle.gem_ids.specs.declared.numbers.LocId.{LocId}
+use Rattle.gem_ids.specs.declared.numbers.LocId.TheVariants.{Arm, Chamber}
+use Rattle.tool_tasks.specs.Chambers.{chamber_set}
+use Rattle.tool_tasks.specs.declared.recipes.Recipe.{Recipe}
+use Rattle.tool_tasks.specs.declared.task.Task.TheVariants as task
 use Rattle.process_job.specs.declared.job.Material.{Material}
 use Rattle.process_job.specs.declared.job.ProcessJob.{ProcessJob}
 use Rattle.process_job.specs.declared.record.JobState.{JobState}
@@ -10,10 +15,10 @@ use Rattle.control_job.specs.declared.job.ControlJob.{ControlJob}
 use Rattle.control_job.specs.declared.record.ControlState.{ControlState}
 use Rattle.control_job.specs.declared.record.ControlState.TheVariants as control
 use Rattle.control_job.specs.declared.record.Ending.TheVariants.{No}
-use Rattle.substrate.specs.declared.record.Processing.{Processing}
+use Rattle.substrate.specs.declared.record.Processing.TheVariants.{InProcess, Processed}
 use Rattle.floor_model.specs.declared.tracked.Substrate.{Substrate}
 use Rattle.floor_model.specs.Floor.{ToolFloor, change_numbered}
-use Rattle.worked_floors.specs.Worked.{recipes, in_slot}
+use Rattle.worked_floors.specs.Worked.{wafer, recipes, processing_is, steps_are, has_open, in_slot, aligned_at}
 
 -- ---- the jobs
 
@@ -63,7 +68,37 @@ joins s = record s { job = 1 }
 abbrev pub is_member : ToolFloor → ToolFloor
 is_member f = record f { substrates = change_numbered 1 joins f.substrates }
 
+-- the substrate is a member of the process job, which is PROCESSING
+abbrev pub in_job : ToolFloor → ToolFloor
+in_job f = is_member (running process.Processing f)
+
+-- ---- routes
+
+-- the recipe as a route of two steps, of which chamber 1 can do the first and chamber 2 the second
+abbrev pub two_steps : List Recipe
+two_steps = record { name = codes "R1"; route = chamber_set (1 ∷ []) ∷ chamber_set (2 ∷ []) ∷ [] } ∷ []
+
+-- the tool has it so
+abbrev pub by_two_steps : ToolFloor → ToolFloor
+by_two_steps f = record f { jobs = record f.jobs { process = record f.jobs.process { recipes = two_steps } } }
+
 -- ---- the floors
+
+-- the substrate is out at a place, IN PROCESS between the two steps
+abbrev pub between_at : LocId → ToolFloor
+between_at loc = steps_are 1 (processing_is InProcess (aligned_at loc))
+
+-- the robot places it in chamber 2 then
+abbrev pub going_on : ToolFloor
+going_on = has_open 1 8 (task.Place wafer (Chamber 2)) (between_at Arm)
+
+-- chamber 2 processes it
+abbrev pub working_again : ToolFloor
+working_again = has_open 4 9 (task.Process wafer (codes "R1")) (between_at (Chamber 2))
+
+-- it is out at a place, finished by its two steps
+abbrev pub finished_again_at : LocId → ToolFloor
+finished_again_at loc = steps_are 2 (processing_is Processed (aligned_at loc))
 
 -- both jobs were created, and the material is here; the process job starts automatically, or by hand
 abbrev pub created : Bool → ToolFloor

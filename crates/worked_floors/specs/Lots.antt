@@ -12,7 +12,7 @@ use Rattle.gem_model.specs.State.{State, opening}
 use Rattle.gem_model.specs.Run.{entry_after}
 use Rattle.history_laws.specs.Calm.{is_calm}
 use Rattle.worked_floors.specs.Worked.{settled}
-use Rattle.worked_floors.specs.Jobs.{created, named_twice}
+use Rattle.worked_floors.specs.Jobs.{by_two_steps, created, named_twice}
 
 -- the tool as it begins, but for its floor
 abbrev pub tool_with : ToolFloor → State
@@ -25,6 +25,10 @@ begun = tool_with (settled (created true))
 -- the tool with the lot whose slot two process jobs name, as its control job is EXECUTING and the robot has its first command
 abbrev pub begun_twice : State
 begun_twice = tool_with (settled named_twice)
+
+-- the tool with the lot whose recipe is a route of two steps, as its control job is EXECUTING and the robot has its first command
+abbrev pub begun_by_two_steps : State
+begun_by_two_steps = tool_with (settled (by_two_steps (created true)))
 
 -- the entry of an event, at the first moment
 abbrev pub entry_of : Event → Entry

@@ -99,7 +99,7 @@ places_with loc = record { ports = 1; chambers = 2; held = record { sub = wafer;
 abbrev pub left_places : PlaceMap
 left_places = record { ports = 1; chambers = 2; held = []; given = 1 }
 
--- the substrate, which isn't aligned
+-- the substrate, which isn't aligned, with no step of its route done
 abbrev pub wafer_with : Transport → Substrate
 wafer_with transport = record {
   number = 1;
@@ -108,6 +108,7 @@ wafer_with transport = record {
   slot = own_slot;
   states = record { transport = transport; processing = NeedsProcessing };
   aligned = false;
+  steps = 0;
   job = 0;
 }
 
@@ -127,6 +128,10 @@ floor_with loc transfer accessing transport = record {
 abbrev pub processed_so : Processing → Substrate → Substrate
 processed_so p s = record s { states = record s.states { processing = p } }
 
+-- a substrate with so many steps of its route done
+abbrev pub with_steps : ℕ → Substrate → Substrate
+with_steps n s = record s { steps = n }
+
 -- ---- changes by hand
 
 -- the substrate is aligned
@@ -136,6 +141,10 @@ is_aligned f = record f { substrates = change_numbered 1 aligned f.substrates }
 -- this is its state of processing
 abbrev pub processing_is : Processing → ToolFloor → ToolFloor
 processing_is p f = record f { substrates = change_numbered 1 (processed_so p) f.substrates }
+
+-- so many steps of its route are done
+abbrev pub steps_are : ℕ → ToolFloor → ToolFloor
+steps_are n f = record f { substrates = change_numbered 1 (with_steps n) f.substrates }
 
 -- it has no place any more
 abbrev pub is_nowhere : ToolFloor → ToolFloor
@@ -211,9 +220,9 @@ beginning = has_open 3 6 (task.Process wafer (codes "R1")) (aligned_at (Chamber 
 abbrev pub working : ToolFloor
 working = processing_is InProcess beginning
 
--- it is out at a place, aligned and finished
+-- it is out at a place, aligned and finished by its one step
 abbrev pub finished_at : LocId → ToolFloor
-finished_at loc = processing_is Processed (aligned_at loc)
+finished_at loc = steps_are 1 (processing_is Processed (aligned_at loc))
 
 -- the robot places it in its slot
 abbrev pub returning : ToolFloor
@@ -221,7 +230,7 @@ returning = has_open 1 8 (task.Place wafer own_slot) (finished_at Arm)
 
 -- it is back in its slot, and its carrier may be taken away
 abbrev pub back : ToolFloor
-back = commands_are 8 (processing_is Processed (is_aligned (floor_with own_slot ReadyToUnload access.Complete AtDestination)))
+back = commands_are 8 (steps_are 1 (processing_is Processed (is_aligned (floor_with own_slot ReadyToUnload access.Complete AtDestination))))
 
 -- it was lost out at a place, aligned, and its carrier may be taken away
 abbrev pub lost_at : LocId → ToolFloor
@@ -253,15 +262,16 @@ second_slot = Slot (record { 0 = 1 }) (record { 0 = 7 })
 abbrev pub has_two_slots : ToolFloor → ToolFloor
 has_two_slots f = record f { shop = with_carrier 1 (read_map (1 ∷ 1 ∷ 3 ∷ 1 ∷ 1 ∷ 1 ∷ 3 ∷ replicate 18 1)) f.shop }
 
--- the second substrate with its states, aligned or not
-abbrev pub second_with : Transport → Processing → Bool → Substrate
-second_with transport processing is_so = record {
+-- the second substrate with its states, aligned or not, and with so many steps done
+abbrev pub second_with : Transport → Processing → Bool → ℕ → Substrate
+second_with transport processing is_so steps = record {
   number = 2;
   sub = second_wafer;
   carrier = 1;
   slot = second_slot;
   states = record { transport = transport; processing = processing };
   aligned = is_so;
+  steps = steps;
   job = 0;
 }
 
@@ -280,15 +290,15 @@ with_second loc s f =
 
 -- it is in its slot, and was nowhere else
 abbrev pub second_in_slot : ToolFloor → ToolFloor
-second_in_slot f = with_second second_slot (second_with AtSource NeedsProcessing false) f
+second_in_slot f = with_second second_slot (second_with AtSource NeedsProcessing false 0) f
 
 -- it is out at a place, unfinished and aligned
 abbrev pub second_aligned_at : LocId → ToolFloor → ToolFloor
-second_aligned_at loc f = with_second loc (second_with AtWork NeedsProcessing true) f
+second_aligned_at loc f = with_second loc (second_with AtWork NeedsProcessing true 0) f
 
 -- it is out at a place, aligned and finished
 abbrev pub second_finished_at : LocId → ToolFloor → ToolFloor
-second_finished_at loc f = with_second loc (second_with AtWork Processed true) f
+second_finished_at loc f = with_second loc (second_with AtWork Processed true 1) f
 
 -- ---- what fires
 

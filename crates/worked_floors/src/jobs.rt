@@ -2,12 +2,12 @@
 
 ghost use Rattle.std.specs.Prelude.{◌≡◌, [], ◌∷◌, true, false};
 ghost use Rattle.gem_tables.specs.Table.{firing};
-ghost use Rattle.gem_ids.specs.declared.numbers.LocId.TheVariants.{Arm};
+ghost use Rattle.gem_ids.specs.declared.numbers.LocId.TheVariants.{Arm, Chamber};
 ghost use Rattle.tool_tasks.specs.declared.task.Task.TheVariants as task;
 ghost use Rattle.process_job.specs.declared.record.JobState.TheVariants as process;
 ghost use Rattle.work_laws.specs.Work.{is_work_left, is_any_open};
-ghost use Rattle.worked_floors.specs.Worked.{wafer, own_slot, is_given, in_slot, picking, placing, working, finished_at, returning, back, settling, settled, firings, behind, done, behind_dones};
-ghost use Rattle.worked_floors.specs.Jobs.{running, ended, is_member, created, at_control, started, paused, resumed, stopped, aborted};
+ghost use Rattle.worked_floors.specs.Worked.{wafer, own_slot, is_given, has_open, in_slot, picking, placing, working, finished_at, returning, back, starting, settling, settled, firings, behind, done, behind_dones, all_done};
+ghost use Rattle.worked_floors.specs.Jobs.{running, ended, is_member, in_job, by_two_steps, between_at, going_on, working_again, finished_again_at, created, at_control, started, paused, resumed, stopped, aborted};
 
 /// A lot begins: the control job is SELECTED and EXECUTING, the process job is SETTING UP, where it gets its members, and PROCESSING, and
 /// the robot is given a Pick of the substrate. A process job that starts by hand is WAITING FOR START until START.
@@ -26,6 +26,40 @@ pub fn a_lot_of_one_substrate_ends_at_the_eighth_done()
     ensures eighth { firings (done 1) (is_member (running process.Processing returning))
         ≡ firing 16 1 5 ∷ firing 11 3 1 ∷ firing 11 27 2 ∷ firing 12 1 3 ∷ firing 14 1 6 ∷ firing 14 1 7 ∷ firing 10 1 2 ∷ firing 4 1 4 ∷ firing 15 1 8 ∷ [] }
     ensures floor { behind (done 1) (is_member (running process.Processing returning)) ≡ ended back }
+{}
+
+/// By a route of two steps: Done of the first Process ends nothing, the substrate stays IN PROCESS with one step done, and the robot is
+/// given a Pick of it. Behind the Place in the chamber of the second step that is given a Process, at whose Done the substrate is PROCESSED.
+pub fn a_substrate_goes_by_two_steps()
+    ensures first { starting (done 3 (by_two_steps (in_job working))) (by_two_steps (in_job working)) ≡ firing 16 3 7 ∷ [] }
+    ensures picked { firings (done 3) (by_two_steps (in_job working)) ≡ firing 16 3 7 ∷ firing 16 1 2 ∷ [] }
+    ensures between { behind (done 3) (by_two_steps (in_job working)) ≡ by_two_steps (in_job (is_given 1 7 (task.Pick wafer (Chamber 1)) (between_at (Chamber 1)))) }
+    ensures placed { firings (done 1) (by_two_steps (in_job going_on)) ≡ firing 16 1 5 ∷ firing 11 27 2 ∷ firing 11 29 1 ∷ firing 16 4 4 ∷ [] }
+    ensures second { firings (done 4) (by_two_steps (in_job working_again)) ≡ firing 16 4 7 ∷ firing 13 1 3 ∷ firing 16 1 2 ∷ [] }
+    ensures finished { behind (done 4) (by_two_steps (in_job working_again)) ≡ by_two_steps (in_job (is_given 1 10 (task.Pick wafer (Chamber 2)) (finished_again_at (Chamber 2)))) }
+{}
+
+/// A lot of one substrate by a route of two steps: ten commands are done, and the eleventh Done ends it as the eighth does where the
+/// route has one step.
+pub fn a_lot_by_two_steps_ends_at_the_eleventh_done()
+    ensures ten { behind_dones (1 ∷ 1 ∷ 2 ∷ 1 ∷ 1 ∷ 3 ∷ 1 ∷ 1 ∷ 4 ∷ 1 ∷ []) (settled (by_two_steps (created true)))
+        ≡ by_two_steps (in_job (is_given 1 11 (task.Place wafer own_slot) (finished_again_at Arm))) }
+    ensures eleventh { firings (done 1) (by_two_steps (in_job (has_open 1 11 (task.Place wafer own_slot) (finished_again_at Arm))))
+        ≡ firing 16 1 5 ∷ firing 11 3 1 ∷ firing 11 27 2 ∷ firing 12 1 3 ∷ firing 14 1 6 ∷ firing 14 1 7 ∷ firing 10 1 2 ∷ firing 4 1 4 ∷ firing 15 1 8 ∷ [] }
+{}
+
+/// STOP, and ABORT, between two steps, where no open Process names the substrate: it is STOPPED, or ABORTED, at once. STOP while the
+/// chamber of the first step works: the substrate is STOPPED behind the Done, and goes back to its slot. ABORT then: it ends ABORTED
+/// with the Done.
+pub fn a_job_ends_between_two_steps()
+    ensures stops { firings stopped (by_two_steps (in_job going_on)) ≡ firing 14 1 11 ∷ firing 13 1 6 ∷ [] }
+    ensures aborts { firings aborted (by_two_steps (in_job going_on)) ≡ firing 14 1 12 ∷ firing 13 1 7 ∷ [] }
+    ensures working { firings stopped (by_two_steps (in_job working)) ≡ firing 14 1 11 ∷ [] }
+    ensures stopped { firings (done 3) (by_two_steps (is_member (running process.Stopping working))) ≡ firing 16 3 7 ∷ firing 13 1 6 ∷ firing 16 1 2 ∷ [] }
+    ensures back { all_done (3 ∷ 1 ∷ 1 ∷ []) (by_two_steps (is_member (running process.Stopping working)))
+        ≡ firing 16 3 7 ∷ firing 13 1 6 ∷ firing 16 1 2 ∷ firing 16 1 5 ∷ firing 11 27 1 ∷ firing 11 28 2 ∷ firing 16 1 1 ∷ firing 16 1 5
+        ∷ firing 11 3 1 ∷ firing 11 27 2 ∷ firing 12 1 3 ∷ firing 14 1 13 ∷ firing 10 1 3 ∷ firing 4 1 4 ∷ firing 15 1 8 ∷ [] }
+    ensures aborted { firings (done 3) (by_two_steps (is_member (running process.Aborting working))) ≡ firing 16 3 7 ∷ firing 13 1 4 ∷ firing 16 1 2 ∷ [] }
 {}
 
 /// STOP where the substrate is in its slot and no command names it: it is SKIPPED, the process job has ended, and the control job is

@@ -8,8 +8,8 @@ ghost use Rattle.gem_model.specs.Run.{after_all};
 ghost use Rattle.history_laws.specs.Completes.{control_of, has_completed, dones};
 ghost use Rattle.history_laws.specs.Calm.{is_calm};
 ghost use Rattle.worked_floors.specs.Worked.{wafer_with};
-ghost use Rattle.worked_floors.specs.Jobs.{created, named_twice};
-ghost use Rattle.worked_floors.specs.Lots.{begun, begun_twice, did_from, failed_at, was_down, said, are_calm};
+ghost use Rattle.worked_floors.specs.Jobs.{by_two_steps, created, named_twice};
+ghost use Rattle.worked_floors.specs.Lots.{begun, begun_twice, begun_by_two_steps, did_from, failed_at, was_down, said, are_calm};
 
 /// A lot of one substrate runs calm through its eight Dones, no row that they fire disturbing its control job, which takes eight
 /// commands; and that has completed behind the eighth, and not behind the seventh.
@@ -30,6 +30,15 @@ pub fn the_first_of_two_process_jobs_takes_a_substrate()
     ensures taken { map (λ s. s.job) begun_twice.floor.substrates ≡ 2 ∷ [] }
     ensures seventh { has_completed (control_of 1 (after_all begun_twice (did_from 1 (1 ∷ 1 ∷ 2 ∷ 1 ∷ 1 ∷ 3 ∷ 1 ∷ [])))) ≡ false }
     ensures eighth { has_completed (control_of 1 (after_all begun_twice (did_from 1 (1 ∷ 1 ∷ 2 ∷ 1 ∷ 1 ∷ 3 ∷ 1 ∷ 1 ∷ [])))) ≡ true }
+{}
+
+/// A lot of one substrate by a route of two steps takes eleven commands, runs calm through their Dones, and has completed behind the
+/// eleventh, and not behind the tenth.
+pub fn a_lot_by_two_steps_takes_eleven_commands()
+    ensures commands { total 1 (by_two_steps (created true)) ≡ 11 }
+    ensures calm { are_calm 1 (counted_of 1 (created true)) begun_by_two_steps (did_from 1 (1 ∷ 1 ∷ 2 ∷ 1 ∷ 1 ∷ 3 ∷ 1 ∷ 1 ∷ 4 ∷ 1 ∷ 1 ∷ [])) ≡ true }
+    ensures tenth { has_completed (control_of 1 (after_all begun_by_two_steps (did_from 1 (1 ∷ 1 ∷ 2 ∷ 1 ∷ 1 ∷ 3 ∷ 1 ∷ 1 ∷ 4 ∷ 1 ∷ [])))) ≡ false }
+    ensures eleventh { has_completed (control_of 1 (after_all begun_by_two_steps (did_from 1 (1 ∷ 1 ∷ 2 ∷ 1 ∷ 1 ∷ 3 ∷ 1 ∷ 1 ∷ 4 ∷ 1 ∷ 1 ∷ [])))) ≡ true }
 {}
 
 /// It is not calm where a module fails at its command or goes down, or its process job is paused, stopped or aborted.

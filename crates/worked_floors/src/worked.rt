@@ -11,6 +11,7 @@ ghost use Rattle.robot_moves.specs.declared.module.Module.TheVariants.{Idle};
 ghost use Rattle.floor_model.specs.Machines.{floor_starts, floor_fired, floor_least, object_name};
 ghost use Rattle.floor_model.specs.Views.{planned};
 ghost use Rattle.floor_model.specs.Signals.{done_rows, lost_rows, open_number};
+ghost use Rattle.worked_floors.specs.Jobs.{in_job};
 ghost use Rattle.worked_floors.specs.Worked.{wafer, own_slot, processing_is, commands_are, is_given, is_down, waiting, in_slot, picking, out_at, placing, aligning, aligned_at, taking, filling, beginning, working, finished_at, returning, back, lost_at, emptied, second_wafer, has_two_slots, second_in_slot, second_aligned_at, second_finished_at, starting, settling, settled, firings, behind, done, failed, went_down, brought_up, said_lost, proceeded, taken_away, all_done, behind_dones};
 
 /// Where the host proceeds with the map, its substrate is registered in its slot, AT SOURCE and NEEDS PROCESSING, and the slot is
@@ -50,7 +51,7 @@ pub fn a_place_is_done()
     ensures floor { behind (done 1) placing ≡ is_given 2 3 (task.Align wafer) (out_at Aligner) }
 {}
 
-/// Done of the Align: the substrate is aligned, where it is. It is of no job, so that its recipe has no chamber that it can go to.
+/// Done of the Align: the substrate is aligned, where it is. It is of no job, so that it has no next step, and no chamber that it can go to.
 pub fn an_align_is_done()
     ensures rest { settling aligning ≡ [] }
     ensures fired { firings (done 2) aligning ≡ firing 16 2 6 ∷ [] }
@@ -66,7 +67,7 @@ pub fn a_substrate_goes_out_to_the_aligner()
     ensures floor { behind_dones (1 ∷ 1 ∷ 2 ∷ []) picking ≡ commands_are 3 (aligned_at Aligner) }
 {}
 
-/// What is aligned and unfinished stays on the arm and at the aligner, as long as its recipe has no chamber, which is so where it is of
+/// What is aligned and unfinished stays on the arm and at the aligner, as long as its next step has no chamber, which is so where it is of
 /// no job.
 pub fn what_is_of_no_job_goes_to_no_chamber()
     ensures arm { settling (aligned_at Arm) ≡ [] }
@@ -74,21 +75,24 @@ pub fn what_is_of_no_job_goes_to_no_chamber()
 {}
 
 /// Where the robot has a Pick at the aligner, and then a Place in a chamber, by hand: Done of the one puts the substrate on the arm, and
-/// Done of the other in the chamber, which is given a Process, so that the substrate is IN PROCESS.
+/// Done of the other in the chamber. It is of no job, so that it has no next step, and the chamber is given no Process.
 pub fn a_substrate_goes_on_to_a_chamber()
     ensures picked { firings (done 1) taking ≡ firing 16 1 5 ∷ firing 11 26 2 ∷ firing 11 27 1 ∷ [] }
     ensures picked_floor { behind (done 1) taking ≡ commands_are 4 (aligned_at Arm) }
-    ensures placed { firings (done 1) filling ≡ firing 16 1 5 ∷ firing 11 27 2 ∷ firing 11 28 1 ∷ firing 16 3 4 ∷ firing 13 1 2 ∷ [] }
-    ensures placed_floor { behind (done 1) filling ≡ processing_is InProcess (is_given 3 6 (task.Process wafer []) (aligned_at (Chamber 1))) }
+    ensures placed { firings (done 1) filling ≡ firing 16 1 5 ∷ firing 11 27 2 ∷ firing 11 28 1 ∷ [] }
+    ensures placed_floor { behind (done 1) filling ≡ commands_are 5 (aligned_at (Chamber 1)) }
 {}
 
-/// A chamber that is Idle is given a Process of what it holds, where that NEEDS PROCESSING. Then the substrate is IN PROCESS. The recipe
-/// is empty, since the substrate is of no job. A chamber that is Down is given none.
+/// A chamber that is Idle is given a Process of what it holds, where it is in the next step of that. Then the substrate is IN PROCESS. A
+/// chamber that is Down is given none, nor is one that holds a substrate of no job.
 pub fn a_chamber_begins_with_what_it_holds()
-    ensures first { settling (aligned_at (Chamber 1)) ≡ firing 16 3 4 ∷ firing 13 1 2 ∷ [] }
-    ensures second { settling (aligned_at (Chamber 2)) ≡ firing 16 4 4 ∷ firing 13 1 2 ∷ [] }
-    ensures floor { settled (aligned_at (Chamber 1)) ≡ processing_is InProcess (is_given 3 1 (task.Process wafer []) (aligned_at (Chamber 1))) }
-    ensures down { settling (is_down 3 (aligned_at (Chamber 1))) ≡ [] }
+    ensures first { settling (in_job (aligned_at (Chamber 1))) ≡ firing 16 3 4 ∷ firing 13 1 2 ∷ [] }
+    ensures second { settling (in_job (aligned_at (Chamber 2))) ≡ firing 16 4 4 ∷ firing 13 1 2 ∷ [] }
+    ensures floor { settled (in_job (aligned_at (Chamber 1)))
+        ≡ in_job (processing_is InProcess (is_given 3 1 (task.Process wafer (codes "R1")) (aligned_at (Chamber 1)))) }
+    ensures placed { firings (done 1) (in_job filling) ≡ firing 16 1 5 ∷ firing 11 27 2 ∷ firing 11 28 1 ∷ firing 16 3 4 ∷ firing 13 1 2 ∷ [] }
+    ensures down { settling (is_down 3 (in_job (aligned_at (Chamber 1)))) ≡ [] }
+    ensures no_job { settling (aligned_at (Chamber 1)) ≡ [] }
 {}
 
 /// A substrate that an open Process names is IN PROCESS, and no more is ready.
@@ -214,11 +218,11 @@ pub fn nothing_is_done_without_a_command()
 pub fn each_module_is_to_do_what_its_substrate_wants()
     ensures robot { planned 1 (out_at Arm) ≡ Some (move_by 1 1 (task.Place wafer Aligner)) }
     ensures aligner { planned 2 (out_at Aligner) ≡ Some (move_by 2 3 (task.Align wafer)) }
-    ensures chamber { planned 4 (out_at (Chamber 2)) ≡ Some (move_by 4 4 (task.Process wafer [])) }
+    ensures chamber { planned 4 (in_job (out_at (Chamber 2))) ≡ Some (move_by 4 4 (task.Process wafer (codes "R1"))) }
     ensures finished { planned 1 (finished_at (Chamber 2)) ≡ Some (move_by 1 2 (task.Pick wafer (Chamber 2))) }
     ensures finished_chamber { planned 4 (finished_at (Chamber 2)) ≡ None }
     ensures in_slot { planned 1 in_slot ≡ None }
-    ensures other_chamber { planned 3 (out_at (Chamber 2)) ≡ None }
+    ensures other_chamber { planned 3 (in_job (out_at (Chamber 2))) ≡ None }
 {}
 
 /// Where two slots are occupied, each substrate in slot order fires its row of transport and then that of processing.

@@ -7,7 +7,7 @@ use Rattle.tool_floor.proofs.floor.ToolFloor.register_at.Goals as goal
 
 pub invariant_of-self : goal.invariant_of-self
 invariant_of-self c =
-    let new : Substrate = record { number = c.in-Ok.number; sub = c.args.sub; carrier = c.args.carrier; slot = c.args.loc; states = c.new.result; aligned = false; job = 0 } in
+    let new : Substrate = record { number = c.in-Ok.number; sub = c.args.sub; carrier = c.args.carrier; slot = c.args.loc; states = c.new.result; aligned = false; steps = 0; job = 0 } in
     let given = ap (λ (p : PlaceMap). p.given) c.in-Ok.ensures.registered in
     either_answer c.push.result c.push.ensures.ok c.push.ensures.err
     (λ more. subst (λ (ss : List Substrate). RiseTo 0 c.register.new.self.given ss) (sym more)

@@ -1,0 +1,4 @@
+pub mod Going
+pub mod Keeping
+pub mod Listed
+pub mod Runs

@@ -1,5 +1,5 @@
 -- The order in which open notes fail where every transaction does, as where the session ends (this tool's profile, direct rows).
-use Rattle.std.specs.Prelude.{ℕ, nat_lt, if◌then◌else◌, List, [], ◌∷◌, map, Option, Some, None}
+use Rattle.std.specs.Prelude.{ℕ, nat_lt, if◌then◌else◌, List, [], ◌∷◌, map}
 use Rattle.spool.specs.declared.note.Note.{Note}
 use Rattle.note_line.specs.declared.around.Around.{Around}
 use Rattle.note_line.specs.Line.{Line}
@@ -13,11 +13,6 @@ numbers notes = map (λ (note : Note). note.number) notes
 abbrev pub put_down : ℕ → List ℕ → List ℕ
 put_down number [] = number ∷ []
 put_down number (one ∷ others) = if nat_lt one number then number ∷ one ∷ others else one ∷ put_down number others
-
--- the greater one of a number and another, if there is one
-abbrev pub greater : ℕ → Option ℕ → ℕ
-greater number None = number
-greater number (Some other) = if nat_lt other number then number else other
 
 -- numbers from the greatest down
 abbrev pub from_greatest : List ℕ → List ℕ

@@ -1,6 +1,6 @@
 //! The line of notes as a record.
 
-ghost use Rattle.std.specs.Prelude.{◌≡◌, ◌≤◌, true, length, slice_get, option_copied, ◌-◌, ◌&&◌, None, Some, IfOk, IfErr, IfSome, IsTrue};
+ghost use Rattle.std.specs.Prelude.{◌≡◌, ◌≤◌, true, length, slice_get, option_copied, ◌&&◌, None, Some, IfOk, IfErr, IfSome, IsTrue};
 ghost use Rattle.spool.specs.Limits.{most_capacity};
 ghost use Rattle.spool.specs.Spool.{rsda, is_transmit, has_note};
 ghost use Rattle.note_line.specs.Line.{opening, next, noted, restated, spool_head, drop_head, open_head, open_oldest, purge_oldest, fail_open, answered, with_kinds, begun, fate_of};
@@ -12,8 +12,9 @@ ghost use Rattle.note_line.specs.Limits.{most_open, most_text};
 
 use crate::around::{Around, SpooledKinds};
 use crate::fate::{DropCause, Fate, Told};
-use crate::open_notes::OpenNotes;
+use crate::open_notes::{MOST_OPEN, OpenNotes};
 use crate::told::{return_note, set_fate, spool_note};
+use arrayvec::ArrayVec;
 use hsms_frame::Bytes;
 use spool::{Kind, Load, Note, Spool, Unload};
 use std::alloc::{AllocError, Global};
@@ -203,11 +204,11 @@ impl NoteLine {
         self.opened.numbered(number).is_some()
     }
 
-    /// The greatest number of an open note, which is the first to fail where every transaction does.
-    pub fn greatest_open(&self) -> Option<u64>
-        ensures { result ≡ slice_get (failing self.now) 0 }
+    /// The numbers of the open notes in the order in which they fail where every transaction does: the greatest first.
+    pub fn failing(&self) -> ArrayVec<u64, MOST_OPEN>
+        ensures { result.items ≡ failing self.now }
     {
-        self.opened.greatest()
+        self.opened.failing()
     }
 
     /// Whether one more note may be open.
@@ -215,14 +216,6 @@ impl NoteLine {
         ensures { result ≡ may_open self.now }
     {
         self.opened.has_room()
-    }
-
-    /// The open note that was sent last.
-    pub fn latest_open(&self) -> Option<&Note>
-        ensures note { option_copied result ≡ slice_get self.now.opened (length self.now.opened - 1) }
-        ensures short { IfSome result (λ note. length note.now.text ≤ most_text) }
-    {
-        self.opened.latest()
     }
 
     /// What became of the note of a number; `None` exactly where the number wasn't given.

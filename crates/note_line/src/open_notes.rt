@@ -1,12 +1,18 @@
 //! The open notes.
 
-ghost use Rattle.std.specs.Prelude.{◌≡◌, ◌<◌, ◌-◌, [], ◌∷◌, ◌++◌, None, Some, length, find, slice_get, option_copied, nat_lt, take, drop, suc, IfOk, IfSome, IfNone};
+ghost use Rattle.std.specs.Prelude.{◌≡◌, ◌<◌, ◌≤◌, [], ◌∷◌, ◌++◌, None, Some, length, find, slice_get, option_copied, nat_lt, take, drop, suc, IfOk, IfSome, IfNone};
 ghost use Rattle.note_line.specs.Line.{is_number, without};
-ghost use Rattle.note_line.specs.Failing.{from_greatest, numbers, greater};
+ghost use Rattle.note_line.specs.Failing.{from_greatest, numbers};
+ghost use Rattle.note_line.specs.Limits.{most_open};
 
+use crate::failing::put_down;
+use arrayvec::ArrayVec;
 use spool::Note;
 use std::alloc::{AllocError, Global};
 use std::marker::Model;
+
+/// The greatest number of notes that may be open at once.
+pub const MOST_OPEN: usize = 8;
 
 /// The open notes, in the order in which they were sent, up to a stated number. Only `new` takes memory.
 #[derive(Drop)]
@@ -28,8 +34,9 @@ impl Model for OpenNotes {
 }
 
 impl OpenNotes {
-    /// No note is open, and so many may be. Takes the room for them. `AllocError` where there is none.
+    /// No note is open, and so many may be, 8 at most. Takes the room for them. `AllocError` where there is none.
     pub fn new(alloc: Global, window: u8) -> Result<OpenNotes, AllocError>
+        requires { window ≤ most_open }
         ensures { IfOk result (λ opened. opened ≡ record { notes = []; window = window }) }
     {
         Ok(OpenNotes {
@@ -85,24 +92,17 @@ impl OpenNotes {
         }
     }
 
-    /// The note that was sent last.
-    pub fn latest(&self) -> Option<&Note>
-        ensures { option_copied result ≡ slice_get self.now.notes (length self.now.notes - 1) }
+    /// The numbers of the open notes, the greatest first.
+    pub fn failing(&self) -> ArrayVec<u64, MOST_OPEN>
+        ensures { result.items ≡ from_greatest (numbers self.now.notes) }
     {
-        self.notes.last()
-    }
-
-    /// The greatest number of an open note.
-    pub fn greatest(&self) -> Option<u64>
-        ensures { result ≡ slice_get (from_greatest (numbers self.now.notes)) 0 }
-    {
-        let mut greatest = None;
+        let mut failing = ArrayVec::new();
         let mut place = self.notes.len();
         'places: while place > 0 {
             place -= 1;
-            greatest = Some(greater(self.at(place).number, greatest));
+            put_down(&mut failing, self.at(place).number);
         }
-        greatest
+        failing
     }
 
     /// A note is open, behind the others. Its condition is that one more may be.
@@ -123,15 +123,5 @@ impl OpenNotes {
             return None;
         };
         Some(self.notes.remove(place))
-    }
-}
-
-// The greater one of a number and another, if there is one.
-fn greater(number: u64, other: Option<u64>) -> u64
-    ensures { result ≡ greater number other }
-{
-    match other {
-        Some(other) if other >= number => other,
-        _ => number,
     }
 }

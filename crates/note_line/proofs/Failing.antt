@@ -1,5 +1,5 @@
--- Where every transaction fails, none is open behind it.
-use Rattle.std.proofs.Common.{◌≡◌, ℕ, ◌+◌, ◌-◌, ◌≤◌, ◌==◌, Bool, true, false, List, [], ◌∷◌, drop, Option, Some, None, find, cond, refl, sym, ap, subst, arith, ◌∙◌, if◌then◌else◌}
+-- Where every transaction fails: the open notes from the greatest number down, and none is open behind them.
+use Rattle.std.proofs.Common.{◌≡◌, ℕ, ◌+◌, ◌-◌, ◌≤◌, ◌==◌, Bool, true, false, List, [], ◌∷◌, length, drop, Option, Some, None, find, cond, refl, sym, ap, subst, arith, ◌∙◌, if◌then◌else◌}
 use Rattle.std.specs.Prelude.{nat_lt, slice_get}
 use Rattle.std.specs.List.{count_by}
 use Rattle.std.proofs.lemmas.Bool.Decides.{nat_tests}
@@ -11,23 +11,26 @@ use Rattle.note_line.specs.declared.around.Around.{Around}
 use Rattle.note_line.specs.declared.fate.Fate.TheVariants.{Dropped, Spooled}
 use Rattle.note_line.specs.declared.fate.DropCause.TheVariants.{NoSpool}
 use Rattle.note_line.specs.Line.{Line, is_number, without, in_kind, fated, with_one, lost_is_dropped, returned, failed, fail_open}
-use Rattle.note_line.specs.Failing.{numbers, put_down, greater, from_greatest, failing, fail_all}
+use Rattle.note_line.specs.Failing.{numbers, put_down, from_greatest, failing, fail_all}
 use Rattle.note_line.specs.Fates.{one_if}
 use Rattle.note_line.proofs.Places.{count-cons}
 
--- ---- the first of them
+-- ---- as many fail as are open
 
-pub first_put : (number : ℕ) (others : List ℕ) → slice_get (put_down number others) 0 ≡ Some (greater number (slice_get others 0))
-first_put number [] = refl
-first_put number (one ∷ others) = of (nat_lt one number) where
-  of : (b : Bool) → slice_get (if b then number ∷ one ∷ others else one ∷ put_down number others) 0 ≡ Some (if b then number else one)
-  of true = refl
-  of false = refl
+put_more : (number : ℕ) (ns : List ℕ) → length (put_down number ns) ≡ length ns + 1
+put_more number [] = refl
+put_more number (one ∷ others) = of (nat_lt one number) (put_more number others) where
+  of : (b : Bool) → length (put_down number others) ≡ length others + 1 → length (if b then number ∷ one ∷ others else one ∷ put_down number others) ≡ length (one ∷ others) + 1
+  of true more = omega arith
+  of false more = omega (arith, more)
 
--- one place further to the front
-pub greatest_at : (notes : List Note) (i : ℕ) (one : Note) → slice_get notes i ≡ Some one → Some (greater one.number (slice_get (from_greatest (numbers (drop (i + 1) notes))) 0)) ≡ slice_get (from_greatest (numbers (drop i notes))) 0
-greatest_at notes i one here =
-    sym (ap (λ (l : List Note). slice_get (from_greatest (numbers l)) 0) (dropped_at notes i one here) ∙ first_put one.number (from_greatest (numbers (drop (i + 1) notes))))
+pub as_many : (notes : List Note) → length (from_greatest (numbers notes)) ≡ length notes
+as_many [] = refl
+as_many (one ∷ others) = let more = put_more one.number (from_greatest (numbers others)) in let rest = as_many others in omega (arith, more, rest)
+
+-- those from a place on, and the one before it
+pub falling_at : (notes : List Note) (i : ℕ) (one : Note) → slice_get notes i ≡ Some one → put_down one.number (from_greatest (numbers (drop (i + 1) notes))) ≡ from_greatest (numbers (drop i notes))
+falling_at notes i one here = sym (ap (λ (l : List Note). from_greatest (numbers l)) (dropped_at notes i one here))
 
 -- ---- what is open behind a note that fails
 

@@ -9,7 +9,7 @@
 
 mod around;
 mod counted_line;
-mod failing;
+mod falling;
 mod fate;
 pub mod laws;
 mod line;

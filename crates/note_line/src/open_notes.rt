@@ -1,11 +1,11 @@
 //! The open notes.
 
-ghost use Rattle.std.specs.Prelude.{◌≡◌, ◌<◌, ◌≤◌, [], ◌∷◌, ◌++◌, None, Some, length, find, slice_get, option_copied, nat_lt, take, drop, suc, IfOk, IfSome, IfNone};
+ghost use Rattle.std.specs.Prelude.{◌≡◌, ◌<◌, ◌≤◌, [], ◌∷◌, ◌++◌, None, Some, length, find, slice_get, option_copied, nat_lt, remove, IfOk, IfSome, IfNone};
 ghost use Rattle.note_line.specs.Line.{is_number, without};
 ghost use Rattle.note_line.specs.Failing.{from_greatest, numbers};
 ghost use Rattle.note_line.specs.Limits.{most_open};
 
-use crate::failing::put_down;
+use crate::falling::put_down;
 use arrayvec::ArrayVec;
 use spool::Note;
 use std::alloc::{AllocError, Global};
@@ -71,7 +71,7 @@ impl OpenNotes {
     fn place_of(&self, number: u64) -> Option<usize>
         ensures within { IfSome result (λ place. place < length self.now.notes) }
         ensures first { IfSome result (λ place. find (is_number number) self.now.notes ≡ slice_get self.now.notes place) }
-        ensures others { IfSome result (λ place. without number self.now.notes ≡ take place self.now.notes ++ drop (suc place) self.now.notes) }
+        ensures others { IfSome result (λ place. without number self.now.notes ≡ remove self.now.notes place) }
         ensures none { IfNone result (find (is_number number) self.now.notes ≡ None) }
     {
         for place in 0..self.len() {

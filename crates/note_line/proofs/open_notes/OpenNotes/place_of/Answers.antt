@@ -1,4 +1,4 @@
-use Rattle.std.proofs.Common.{List, ◌++◌, take, ◌∙◌, sym, ap}
+use Rattle.std.proofs.Common.{ℕ, List, ◌++◌, take, drop, add-one, ◌∙◌, sym, ap}
 use Rattle.spool.specs.declared.note.Note.{Note}
 use Rattle.note_line.proofs.Finding.{is_its, is_not_its, find_here, find_past, without_here, without_past}
 use Rattle.note_line.proofs.open_notes.OpenNotes.place_of.Goals as goal
@@ -11,7 +11,9 @@ returns-then-at-number-clause-first c =
 pub returns-then-at-number-clause-others : goal.returns-then-at-number-clause-others
 returns-then-at-number-clause-others c =
     let is = is_its c.at.result.now.number c.args.number c.if-at-number.true in
-    c.loop-place.invariant.others ∙ ap (λ (l : List Note). take c.loop-place.place c.args.self.now.notes ++ l) (without_here c.args.number c.loop-place.place c.args.self.now.notes c.at.result.now c.at.ensures is)
+    c.loop-place.invariant.others
+    ∙ ap (λ (l : List Note). take c.loop-place.place c.args.self.now.notes ++ l) (without_here c.args.number c.loop-place.place c.args.self.now.notes c.at.result.now c.at.ensures is)
+    ∙ ap (λ (n : ℕ). take c.loop-place.place c.args.self.now.notes ++ drop n c.args.self.now.notes) (add-one c.loop-place.place)
 
 pub loop-place-preserved : goal.loop-place-preserved
 loop-place-preserved c =

@@ -1,4 +1,5 @@
-use Rattle.std.proofs.Common.{Some, sym, ap, ◌∙◌, arith}
+use Rattle.std.proofs.Common.{Some, length, sym, ap, ◌∙◌, arith}
+use Rattle.std.proofs.lemmas.List.Edits.{length-remove}
 use Rattle.std.proofs.lemmas.Option.{slice_get-get_or}
 use Rattle.note_line.proofs.open_notes.OpenNotes.take.Goals as goal
 
@@ -10,7 +11,13 @@ remove-requires c =
 pub invariant_of-self : goal.invariant_of-self
 invariant_of-self c =
     let room = c.self.invariant.room in
-    record { room = omega (arith, room, c.remove.ensures.capacity) }
+    let within = c.self.invariant.within in
+    let place = rw (← c.self.view_is) at c.in-Some.ensures.within in
+    record {
+      within = omega (arith, within, ap length c.remove.ensures.items, length-remove c.self.inside.notes.items c.in-Some.place place);
+      most = c.self.invariant.most;
+      room = omega (arith, room, c.remove.ensures.capacity);
+    }
 
 pub returns-clause-taken : goal.returns-clause-taken
 returns-clause-taken c =

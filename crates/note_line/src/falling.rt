@@ -1,4 +1,4 @@
-//! The order in which open notes fail where every transaction does.
+//! Numbers that fall, as those of the open notes where every transaction fails.
 
 ghost use Rattle.std.specs.Prelude.{◌≡◌, ◌<◌, ◌≤◌, ◌∷◌, ◌++◌, length, take, drop};
 ghost use Rattle.arrayvec.specs.ArrayVec.{array_vec_len};

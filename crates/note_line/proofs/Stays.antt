@@ -63,12 +63,11 @@ head-short l (Some note) short some e = of l.waiting (all_second IsShort l.spool
   of [] are some f = absurd (true≢false some)
   of (first ∷ notes) are some f = rw f are.0
 
--- ---- the text of an open one
+-- ---- the text of the oldest that is spooled
 
-pub open-short : (l : Line) (place : ℕ) (one : Option (Bor Note)) → AreShort l → option_copied one ≡ slice_get l.opened place → IfSome one (λ note. length note.now.text ≤ most_text)
-open-short l place None short e = tt
-open-short l place (Some note) short e = of l.opened place (all_first IsShort l.opened (l.spool.notes ++ l.waiting) short) e where
-  of : (notes : List Note) (place : ℕ) → AllByRecursion IsShort notes → Some note.now ≡ slice_get notes place → length note.now.text ≤ most_text
-  of [] place are f = absurd (cc)
-  of (first ∷ notes) zero are f = let same : note.now ≡ first = cc in rw same are.0
-  of (first ∷ notes) (suc place) are f = of notes place are.1 f
+pub oldest-short : (l : Line) (one : Option (Bor Note)) → AreShort l → option_copied one ≡ slice_get l.spool.notes 0 → IfSome one (λ note. length note.now.text ≤ most_text)
+oldest-short l None short e = tt
+oldest-short l (Some note) short e = of l.spool.notes (all_first IsShort l.spool.notes l.waiting (all_second IsShort l.opened (l.spool.notes ++ l.waiting) short)) e where
+  of : (notes : List Note) → AllByRecursion IsShort notes → Some note.now ≡ slice_get notes 0 → length note.now.text ≤ most_text
+  of [] are f = absurd (cc)
+  of (first ∷ notes) are f = let same : note.now ≡ first = cc in rw same are.0

@@ -8,9 +8,12 @@
 #
 # - with no report defined, for 100,000 and for 200,000 commands; an S6F11 has then 34 bytes;
 # - with one report of 64 VIDs that is linked to 16 events, those of both commands among them, for 10,000 and for 20,000
-#   commands.
+#   commands;
+# - with no report again, under version 2 of the configuration, with windows of 1 and 8, for 200,000 commands: each answered before the next
+#   command, and with the window of 8 eight commands before the first answer, which are answered in their order and in the reverse one.
 #
-# A ratio of at most 2.2 is wanted of each: twice the commands take about twice the time. The times are processor times, which
+# A ratio of at most 2.2 is wanted of the first two: twice the commands take about twice the time. Of the others an entry is to take as long as of
+# the first, by at most a tenth more. The times are processor times, which
 # a busy machine changes little. The memory is the peak of the program's pages in kilobytes, as the system counts it. This is
 # a measurement. It is no test, and no part of the merge gate. Build the program first:
 #
@@ -58,12 +61,13 @@ report_out() {
     printf '> 0000000D00000222000000000003210100\n> 0000000D00000224000000000004210100\n'
 }
 
-# So many commands in turn, each with the S6F12 of its S6F11.
+# So many commands in turn, each with the S6F12 of its S6F11: behind each as many commands as are said, by default one, their answers, in their
+# order or in the reverse one.
 commands() {
-    awk -v count="$1" 'BEGIN {
-        for (i = 1; i <= count; i++) {
-            print i % 2 == 1 ? "O local" : "O remote"
-            printf "H 0000000D0000060C0000%08X210100\n", i
+    awk -v count="$1" -v open="${2:-1}" -v order="${3:-forward}" 'BEGIN {
+        for (i = 1; i <= count; i += open) {
+            for (k = i; k < i + open; k++) print k % 2 == 1 ? "O local" : "O remote"
+            for (k = 0; k < open; k++) printf "H 0000000D0000060C0000%08X210100\n", order == "reverse" ? i + open - 1 - k : i + k
         }
     }'
 }
@@ -93,9 +97,9 @@ values="${first_three}B1004100A902ROWB104000003E8B10400000000250100B10400001194B
 one_report=01010102B104000000010140$values$values$values$values
 
 # Measures so many commands. The second word is what is printed of the reports of each event; where it isn't $no_reports the
-# report is defined and linked first.
+# report is defined and linked first. The third and the fourth are as in `commands`.
 measure() {
-    local count=$1 reports=$2 entries=$((3 * $1 + 5))
+    local count=$1 reports=$2 open=${3:-1} order=${4:-forward} entries=$((3 * $1 + 5))
     front > "$work/lines"
     front_out > "$work/expected"
     if [ "$reports" != "$no_reports" ]; then
@@ -103,7 +107,7 @@ measure() {
         report_out >> "$work/expected"
         entries=$((entries + 4))
     fi
-    commands "$count" >> "$work/lines"
+    commands "$count" "$open" "$order" >> "$work/lines"
     commands_out "$count" "$reports" >> "$work/expected"
     feed
     if ! cmp -s "$work/expected" "$work/out"; then
@@ -129,3 +133,20 @@ echo "no report:"
 measure_twice 100000 "$no_reports"
 echo "a report of 64 VIDs, linked to 16 events:"
 measure_twice 10000 "$one_report"
+
+# The configuration of a window.
+with_window() {
+    config=$work/window.toml
+    printf 'version = 2\ncommunication = "communicating"\nwindow = %d\n' "$1" > "$config"
+}
+
+echo "no report, a window of 1:"
+with_window 1
+measure 200000 "$no_reports"
+echo "a window of 8, each answered before the next:"
+with_window 8
+measure 200000 "$no_reports"
+echo "eight open at once, answered in their order:"
+measure 200000 "$no_reports" 8
+echo "answered in the reverse order:"
+measure 200000 "$no_reports" 8 reverse

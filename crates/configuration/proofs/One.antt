@@ -4,7 +4,7 @@ use Rattle.std.proofs.lemmas.Bool.{false≢true}
 use Rattle.toml.specs.Data.{Members}
 use Rattle.tool_events.specs.declared.config.Config.{Config}
 use Rattle.configuration.specs.declared.fault.ConfigFault.{ConfigFault}
-use Rattle.configuration.specs.Rules.{Row, row, rules, rules_for, AreGiven, least_broken}
+use Rattle.configuration.specs.Rules.{Row, row, rules, all_rules, all_rules_for, AreGiven, least_broken}
 use Rattle.configuration.specs.Reading.{IsToml, Says, Breaks}
 
 same : {A : Type 0} {x y z : A} → x ≡ z → y ≡ z → x ≡ y
@@ -20,9 +20,9 @@ alike ms c d [] a b = tt
 alike ms c d (row rule key kind default field ∷ rows) a b = (same a.0 b.0, alike ms c d rows a.1 b.1)
 
 -- the rows say each field of a configuration
-each_field : (version chambers : ℕ) (c d : Config) → AreAlike c d (rules version chambers) → c ≡ d
+each_field : (version chambers : ℕ) (c d : Config) → AreAlike c d (all_rules version chambers) → c ≡ d
 unfolding rules
-each_field of_version of_plant c d (version, (device, (mdln, (softrev, (communication, (control, (chambers, (ports, (spool_capacity, (spool_streams, (overwrite, (max_transmit, (t3, (t6, (t7, (establish, (linktest, (max_entries, (max_bytes, (start_moment, (recipes, (tcp_port, rest)))))))))))))))))))))) = λ i. record {
+each_field of_version of_plant c d (version, (device, (mdln, (softrev, (communication, (control, (chambers, (ports, (spool_capacity, (spool_streams, (overwrite, (max_transmit, (t3, (t6, (t7, (establish, (linktest, (max_entries, (max_bytes, (start_moment, (recipes, (tcp_port, (window, rest))))))))))))))))))))))) = λ i. record {
   version = version i;
   device = device i;
   mdln = mdln i;
@@ -45,10 +45,11 @@ each_field of_version of_plant c d (version, (device, (mdln, (softrev, (communic
   start_moment = record { 0 = start_moment i };
   recipes = recipes i;
   tcp_port = tcp_port i;
+  window = window i;
 }
 
-pub one_given : (version chambers : ℕ) (ms : Members) (c d : Config) → AreGiven ms c (rules version chambers) → AreGiven ms d (rules version chambers) → c ≡ d
-one_given version chambers ms c d a b = each_field version chambers c d (alike ms c d (rules version chambers) a b)
+pub one_given : (version chambers : ℕ) (ms : Members) (c d : Config) → AreGiven ms c (all_rules version chambers) → AreGiven ms d (all_rules version chambers) → c ≡ d
+one_given version chambers ms c d a b = each_field version chambers c d (alike ms c d (all_rules version chambers) a b)
 
 some_same : {A : Type 0} {x y : A} → Some x ≡ Some y → x ≡ y
 some_same {A} {x} e = ap (λ o. elim o as (λ _. A) [ None ↦ x | Some z ↦ z ]) e
@@ -62,7 +63,7 @@ one_table text ms ns a b = some_same (sym a.2 ∙ b.2)
 
 pub one_configuration : (text : List ℕ) (c d : Config) → Says text c → Says text d → c ≡ d
 one_configuration text c d (ms, a, unbroken, given) (ns, b, unbroken', given') =
-    one_given _ _ ms c d given (subst (λ ms. AreGiven ms d (rules_for ms)) (one_table text ns ms b a) given')
+    one_given _ _ ms c d given (subst (λ ms. AreGiven ms d (all_rules_for ms)) (one_table text ns ms b a) given')
 
 pub says_or_breaks : (text : List ℕ) (c : Config) (broken : ConfigFault) → Says text c → Breaks text broken → ⊥
 says_or_breaks text c broken (ms, a, unbroken, given) (inl none) = none.1 ms a

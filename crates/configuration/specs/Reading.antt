@@ -6,7 +6,7 @@ use Rattle.toml.specs.Parse.{parse_document}
 use Rattle.tool_events.specs.declared.config.Config.{Config}
 use Rattle.configuration.specs.declared.fault.ConfigFault.{ConfigFault}
 use Rattle.configuration.specs.declared.fault.ConfigFault.TheVariants as fault
-use Rattle.configuration.specs.Rules.{AreGiven, rules_for, least_broken}
+use Rattle.configuration.specs.Rules.{AreGiven, all_rules_for, least_broken}
 
 -- the greatest text of a configuration, in bytes (this tool's profile, limits)
 abbrev pub configuration_bytes : ℕ
@@ -19,7 +19,7 @@ IsToml text ms = (length text ≤ configuration_bytes) × IsUtf8 text × (parse_
 -- the text says this configuration: it is a table that breaks no rule, and each field is what its key gives (this tool's profile,
 -- configuration)
 abbrev pub Says : List ℕ → Config → Type 0
-Says text c = (ms : Members) × IsToml text ms × (least_broken ms ≡ None) × AreGiven ms c (rules_for ms)
+Says text c = (ms : Members) × IsToml text ms × (least_broken ms ≡ None) × AreGiven ms c (all_rules_for ms)
 
 -- this is the least rule that the text breaks, with its key: rule 0 where it is no table, whose key is empty (this tool's profile,
 -- configuration)

@@ -1,6 +1,6 @@
 -- The rules of a configuration, as they are printed: the number of each, its keys, what they may say, and what is taken where
 -- they are absent (this tool's profile, configuration).
-use Rattle.std.specs.Prelude.{◌≡◌, ◌==◌, ℕ, Bool, false, if◌then◌else◌, List, [], ◌∷◌, map, codes, Option, Some, None, option_map}
+use Rattle.std.specs.Prelude.{◌≡◌, ◌==◌, ◌&&◌, ◌||◌, ℕ, Bool, false, if◌then◌else◌, List, [], ◌∷◌, ◌++◌, map, codes, Option, Some, None, option_map, is_some}
 use Rattle.std.specs.Option.{option_or}
 use Rattle.gem_ids.specs.Moments.{last_moment}
 use Rattle.toml.specs.Data.{Data, Members, as_bool, get_member}
@@ -77,7 +77,7 @@ abbrev pub most_ports : ℕ → ℕ
 most_ports version = if version == 1 then 2 else 4
 
 -- The rules 1 to 17 of a version, for a plant of so many chambers. Rule 0 is that the text is a table of TOML, and rule 18 that it has
--- no other key (this tool's profile, configuration).
+-- no other key than those of these rules and of rule 19 (this tool's profile, configuration).
 unfoldable pub rules : ℕ → ℕ → List Row
 rules version chambers =
     row 1 (codes "version") (number 1 newest_version) 1 (λ c. c.version)
@@ -103,6 +103,18 @@ rules version chambers =
     ∷ (row 16 (codes "recipes") (recipes version chambers) (recipe_for_all chambers) (λ c. c.recipes)
     ∷ (row 17 (codes "tcp_port") (number 1 65535) 5000 (λ c. c.tcp_port)
     ∷ [])))))))))))))))))))))
+
+-- the key of rule 19
+abbrev pub window_key : List ℕ
+window_key = codes "window"
+
+-- the rule behind rule 18: how many notes may be open at once. Version 1 has no such key
+abbrev pub last_rules : List Row
+last_rules = row 19 window_key (number 1 8) 1 (λ c. c.window) ∷ []
+
+-- all rows
+abbrev pub all_rules : ℕ → ℕ → List Row
+all_rules version chambers = rules version chambers ++ last_rules
 
 -- the key of a row
 abbrev pub key_of : Row → List ℕ
@@ -133,9 +145,13 @@ abbrev pub broken_after : Option ConfigFault → List Row → Members → Option
 broken_after before [] ms = before
 broken_after before (row rule key kind default field ∷ rows) ms = broken_after (option_or before (broken_by rule key (said_at kind key ms))) rows ms
 
--- rule 18 is broken where there is a key that no row has; its key is not told (this tool's profile, configuration)
-abbrev pub broken_by_other : List Row → Members → Option ConfigFault
-broken_by_other rows ms = if has_other (map key_of rows) ms then Some (fault.Rule 18 []) else None
+-- a table has the key of rule 19, which version 1 lacks
+abbrev pub has_later_key : ℕ → Members → Bool
+has_later_key version ms = (version == 1) && is_some (get_member window_key ms)
+
+-- rule 18 is broken where there is a key that no row of the version has; its key is not told (this tool's profile, configuration)
+abbrev pub broken_by_other : ℕ → List Row → Members → Option ConfigFault
+broken_by_other version rows ms = if has_other (map key_of rows) ms || has_later_key version ms then Some (fault.Rule 18 []) else None
 
 -- each row's field is what its key gives
 abbrev pub AreGiven : Members → Config → List Row → Type 0
@@ -150,10 +166,15 @@ version_of ms = taken 1 (said_at (number 1 newest_version) (codes "version") ms)
 abbrev pub chambers_of : Members → ℕ
 chambers_of ms = taken 2 (said_at (number 1 (most_chambers (version_of ms))) (codes "chambers") ms)
 
--- the rules of a table
+-- the rules 1 to 17 of a table, and all of them
 abbrev pub rules_for : Members → List Row
 rules_for ms = rules (version_of ms) (chambers_of ms)
 
--- the least rule from 1 to 18 that a table breaks, with its key
+abbrev pub all_rules_for : Members → List Row
+all_rules_for ms = all_rules (version_of ms) (chambers_of ms)
+
+-- the least rule from 1 to 19 that a table breaks, with its key
 abbrev pub least_broken : Members → Option ConfigFault
-least_broken ms = option_or (broken_after None (rules_for ms) ms) (broken_by_other (rules_for ms) ms)
+least_broken ms =
+    option_or (broken_after None (rules_for ms) ms)
+    (option_or (broken_by_other (version_of ms) (all_rules_for ms) ms) (broken_after None last_rules ms))

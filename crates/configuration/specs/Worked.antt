@@ -29,3 +29,10 @@ of_key key value = member key value no_members
 -- a table that says how many chambers there are, and the recipes
 abbrev pub plant_of : ℕ → Data → Members
 plant_of chambers recipes = member (codes "chambers") (number chambers) (of_key (codes "recipes") recipes)
+
+-- a table of a version that says a window, with another key that no rule knows
+abbrev pub window_of : ℕ → ℕ → Members
+window_of version window = member (codes "version") (number version) (of_key (codes "window") (number window))
+
+abbrev pub with_unknown : Members → Members
+with_unknown ms = member (codes "another") (number 1) ms

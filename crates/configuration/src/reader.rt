@@ -5,7 +5,7 @@ ghost use Rattle.tool_tasks.specs.Chambers.{last_chamber};
 ghost use Rattle.tool_events.specs.Configs.{are_usable, IsConfig};
 ghost use Rattle.configuration.specs.Values.{is_plain};
 ghost use Rattle.configuration.specs.Recipes.{recipe_for_all};
-ghost use Rattle.configuration.specs.Rules.{number, text, truth, communication, control, streams, recipes, communication_words, control_words, most_chambers, most_ports, said_at, taken, Noted, broken_after, AreGiven, rules_for};
+ghost use Rattle.configuration.specs.Rules.{number, text, truth, communication, control, streams, recipes, communication_words, control_words, most_chambers, most_ports, said_at, taken, Noted, broken_after, AreGiven, rules_for, all_rules_for, last_rules, version_of};
 
 use crate::fault::ConfigFault;
 use crate::recipes::{recipe_for_all, recipes_of, value_at};
@@ -174,10 +174,12 @@ impl Reader<'_> {
         take(broken, rule, key, said, default)
     }
 
-    // What the rules 1 to 17 take, row by row.
-    pub(crate) fn config(&self, broken: &mut Broken) -> Config
-        ensures given { AreGiven (table_view self.now.table.now) result (rules_for (table_view self.now.table.now)) }
+    // What the rules 1 to 17 and 19 take, row by row. Whether rule 19 is broken is noted apart, since rule 18 stands before it.
+    pub(crate) fn config(&self, broken: &mut Broken, last: &mut Broken) -> Config
+        ensures version { result.version ≡ version_of (table_view self.now.table.now) }
+        ensures given { AreGiven (table_view self.now.table.now) result (all_rules_for (table_view self.now.table.now)) }
         ensures broken { broken.new ≡ broken_after broken.old (rules_for (table_view self.now.table.now)) (table_view self.now.table.now) }
+        ensures last { last.new ≡ broken_after last.old last_rules (table_view self.now.table.now) }
         ensures bounds { IsConfig result }
     {
         let version = self.number(broken, 1, "version", 1, NEWEST_VERSION, 1) as u8;
@@ -203,6 +205,7 @@ impl Reader<'_> {
         let default = recipe_for_all(chambers);
         let recipes = self.recipes(broken, 16, "recipes", version, chambers, default);
         let tcp_port = self.number(broken, 17, "tcp_port", 1, 65_535, 5000) as u16;
+        let window = self.number(last, 19, "window", 1, 8, 1) as u8;
         Config {
             version,
             device,
@@ -226,6 +229,7 @@ impl Reader<'_> {
             start_moment: Moment(start_moment),
             recipes,
             tcp_port,
+            window,
         }
     }
 }

@@ -4,7 +4,7 @@ ghost use Rattle.std.specs.Prelude.{◌≡◌, [], ◌∷◌, codes, Some, None}
 ghost use Rattle.configuration.specs.declared.fault.ConfigFault.TheVariants as fault;
 ghost use Rattle.configuration.specs.Recipes.{recipes_of};
 ghost use Rattle.configuration.specs.Rules.{rules, broken_after, least_broken};
-ghost use Rattle.configuration.specs.Worked.{number, by_chambers, by_route, recipe_of, of_key, plant_of};
+ghost use Rattle.configuration.specs.Worked.{number, by_chambers, by_route, recipe_of, of_key, plant_of, window_of, with_unknown};
 
 /// The chambers of a recipe of version 1 are a route of one step.
 #[tactic(auto, unfolding(crate::specs::Rules::rules))]
@@ -61,4 +61,21 @@ pub fn a_third_version_breaks_rule_1()
     ensures first { least_broken (of_key (codes "version") (number 1)) ≡ None }
     ensures second { least_broken (of_key (codes "version") (number 2)) ≡ None }
     ensures third { least_broken (of_key (codes "version") (number 3)) ≡ Some (fault.Rule 1 (codes "version")) }
+{}
+
+/// Version 2 has a window of one to eight open notes.
+#[tactic(auto, unfolding(crate::specs::Rules::rules))]
+pub fn a_window_is_one_to_eight()
+    ensures one { least_broken (window_of 2 1) ≡ None }
+    ensures eight { least_broken (window_of 2 8) ≡ None }
+    ensures none { least_broken (window_of 2 0) ≡ Some (fault.Rule 19 (codes "window")) }
+    ensures nine { least_broken (window_of 2 9) ≡ Some (fault.Rule 19 (codes "window")) }
+{}
+
+/// In version 1 its key is one that no rule knows. A key that no rule knows is told before a faulty window.
+#[tactic(auto, unfolding(crate::specs::Rules::rules))]
+pub fn version_1_has_no_window()
+    ensures first { least_broken (window_of 1 1) ≡ Some (fault.Rule 18 []) }
+    ensures by_default { least_broken (of_key (codes "window") (number 1)) ≡ Some (fault.Rule 18 []) }
+    ensures unknown_first { least_broken (with_unknown (window_of 2 9)) ≡ Some (fault.Rule 18 []) }
 {}

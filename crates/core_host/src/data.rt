@@ -322,8 +322,8 @@ fn take_answer(
     match what {
         What::Establish => take_establish(plant, alloc, header, arrival),
         What::Attempt => take_attempt(plant, alloc, header.byte3),
-        What::Note(_) => {
-            plant.answer_note();
+        What::Note(number) => {
+            plant.answer_note(number);
             Ok(())
         }
     }

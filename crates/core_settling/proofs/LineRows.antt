@@ -32,13 +32,13 @@ abbrev pub Others : ℕ → Type 0
 Others n = ((n == 6) ≡ false) × ((n == 10) ≡ false) × ((n == 11) ≡ false) × ((n == 12) ≡ false) × ((n == 13) ≡ false)
 
 abbrev IsRestating : Around → Line → Row → Type 0
-IsRestating a l r = r.is_automatic ≡ true → Others r.number → row_effect a r.number l ≡ restated r.number l
+IsRestating a l r = r.is_automatic ≡ true → Others r.number → row_effect a r.number 0 l ≡ restated r.number l
 
 all_restating : (a : Around) (l : Line) → AllByRecursion (IsRestating a l) line_table
 all_restating a l = ((λ auto o. refl), ((λ auto o. refl), ((λ auto o. refl), ((λ auto o. absurd (true≢false (sym auto))), ((λ auto o. absurd (true≢false (sym auto))), ((λ auto o. absurd (true≢false o.0)), ((λ auto o. refl), ((λ auto o. refl), ((λ auto o. refl), ((λ auto o. absurd (true≢false o.1)), ((λ auto o. absurd (true≢false o.2)), ((λ auto o. absurd (true≢false o.3)), ((λ auto o. absurd (true≢false o.4)), ((λ auto o. absurd (true≢false (sym auto))), tt))))))))))))))
 
 -- each other row that fires by itself changes the states of the spool alone
-pub restating : (a : Around) (l : Line) (row : ℕ) → least a l ≡ Some row → Others row → row_effect a row l ≡ restated row l
+pub restating : (a : Around) (l : Line) (row : ℕ) → least a l ≡ Some row → Others row → row_effect a row 0 l ≡ restated row l
 restating a l row e others =
     let is = least_is (IsRestating a l) a l row (all_restating a l) e in
-    subst (λ (n : ℕ). row_effect a n l ≡ restated n l) is.its_number (is.gives is.is_automatic (subst Others (sym is.its_number) others))
+    subst (λ (n : ℕ). row_effect a n 0 l ≡ restated n l) is.its_number (is.gives is.is_automatic (subst Others (sym is.its_number) others))

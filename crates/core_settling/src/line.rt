@@ -1,7 +1,7 @@
 //! The rows of the line of notes and of the spool that are ready by themselves (table 3).
 ghost use Rattle.std.specs.Prelude.{◌≡◌, true, is_some, None, OnOk, IfOk, Some, IsTrue};
 ghost use Rattle.gem_tables.specs.Table.{firing};
-ghost use Rattle.note_line.specs.Table3.{least, head_in_kind};
+ghost use Rattle.note_line.specs.Table3.{least, head_in_kind, may_open};
 ghost use Rattle.gem_model.specs.State.{around};
 ghost use Rattle.gem_model.specs.Ready.{ready_line};
 ghost use Rattle.gem_model.specs.Effects.{asks_first};
@@ -39,9 +39,9 @@ fn send_oldest(plant: &mut Plant, alloc: Global) -> Result<(), AllocError>
     plant.ask(alloc, stream, function, what, kept)
 }
 
-/// Row 12: the oldest spooled note is sent, and is open. No note is open before.
+/// Row 12: the oldest spooled note is sent, and is open. Fewer notes are open than may be.
 fn open_oldest(plant: &mut Plant, alloc: Global) -> Result<(), AllocError>
-    requires { plant.old.line.opened ≡ None }
+    requires { may_open plant.old.line ≡ true }
     ensures { OnOk result (plant.new ≡ fire plant.old (firing 3 0 12)) }
 {
     send_oldest(plant, alloc)?;
@@ -65,7 +65,7 @@ fn open_head(plant: &mut Plant, alloc: Global) -> Result<(), AllocError>
 fn fire_row(plant: &mut Plant, alloc: Global, row: u8) -> Result<(), AllocError>
     requires ready { least (around plant.old) plant.old.line ≡ Some row }
     requires in_kind { row ≡ 10 → head_in_kind plant.old.line ≡ true }
-    requires none_open { row ≡ 12 → plant.old.line.opened ≡ None }
+    requires may_open { row ≡ 12 → may_open plant.old.line ≡ true }
     ensures { OnOk result (plant.new ≡ fire plant.old (firing 3 0 row)) }
 {
     match row {

@@ -49,7 +49,7 @@ record Timeless (g h : State) : Type 0 where
 rows_timeless : (kind : What) (g : State) → Timeless g (fires (timeout_rows kind) g)
 rows_timeless what.Establish g = either_way (Timeless g) (row_starts g (firing 1 0 5)) (fire g (firing 1 0 5)) g (record { moment = refl; opened = refl }) (record { moment = refl; opened = refl })
 rows_timeless what.Attempt g = either_way (Timeless g) (row_starts g (firing 2 0 3)) (fire g (firing 2 0 3)) g (record { moment = refl; opened = refl }) (record { moment = refl; opened = refl })
-rows_timeless (what.Note n) g = either_way (Timeless g) (row_starts g (firing 3 0 14)) (fire g (firing 3 0 14)) g (record { moment = refl; opened = refl }) (record { moment = refl; opened = refl })
+rows_timeless (what.Note n) g = either_way (Timeless g) (row_starts g (firing 3 n 14)) (fire g (firing 3 n 14)) g (record { moment = refl; opened = refl }) (record { moment = refl; opened = refl })
 
 abbrev all_of : List Open → List Due
 all_of ones = map (λ one. Timeout one) ones

@@ -63,7 +63,7 @@ fn timeout_row(plant: &Plant, what: What) -> Firing
     match what {
         What::Establish => by_comm(CommTrigger::Refused),
         What::Attempt => plant.by_control(ControlTrigger::Failed),
-        What::Note(_) => note_fails(),
+        What::Note(number) => note_fails(number),
     }
 }
 

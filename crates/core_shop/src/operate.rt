@@ -5,7 +5,7 @@ ghost use Rattle.std.specs.Option.{option_to_list};
 ghost use Rattle.gem_tables.specs.Names.{table_number};
 ghost use Rattle.gem_tables.specs.Table.{firing};
 ghost use Rattle.gem_model.specs.State.{is_up};
-ghost use Rattle.gem_model.specs.Fire.{fires};
+ghost use Rattle.gem_model.specs.Fire.{fire_listed, fires};
 ghost use Rattle.gem_model.specs.Direct.{Are, IsListed, operator_rows};
 ghost use Rattle.gem_model.specs.Step.{answered, is_accepted, can_fire, can_clear, can_come_up, switched, operated, quits};
 ghost use Rattle.gem_model.specs.Noting.{clears_alarm};
@@ -16,7 +16,6 @@ ghost use Rattle.tool_events.specs.declared.event.OperCmd.TheVariants as oper;
 
 use crate::clock::end_for;
 use crate::reaction::Reaction;
-use arrayvec::ArrayVec;
 use core_state::Plant;
 use gem_ids::{JobId, ModuleId, PortNo};
 use gem_rows::{is_module_alarm, module_alarm};
@@ -29,17 +28,6 @@ use std::alloc::{AllocError, Global};
 use tool_events::{Answer, OperCmd, SessionCause};
 use tool_tasks::JobWord;
 
-// One row, or none.
-fn one(row: Option<Firing>) -> ArrayVec<Firing, 3>
-    ensures { result.items ≡ option_to_list row }
-{
-    let mut rows = ArrayVec::new();
-    if let Some(row) = row {
-        rows.push(row);
-    }
-    rows
-}
-
 // A row of a table at a port: the first, or the second.
 fn at_port(table: Table, first: bool, port: PortNo) -> Firing
     ensures { result ≡ firing (table_number table) port.0 (if first then 1 else 2) }
@@ -48,57 +36,65 @@ fn at_port(table: Table, first: bool, port: PortNo) -> Firing
 }
 
 /// The row of a command to a process job, which is that of the host's S16F5 (SEMI E40; table 14).
-fn job_rows(plant: &Plant, job: JobId, word: JobWord) -> ArrayVec<Firing, 3>
-    ensures rows { result.items ≡ operator_rows (oper.Job job word) plant.now }
-    ensures listed { Are IsListed result.items }
+fn job_row(plant: &Plant, job: JobId, word: JobWord) -> Option<Firing>
+    ensures rows { option_to_list result ≡ operator_rows (oper.Job job word) plant.now }
+    ensures listed { Are IsListed (option_to_list result) }
 {
-    one(command_row(job.text(), word, plant.jobs()))
+    command_row(job.text(), word, plant.jobs())
 }
 
 /// The row of a command to a control job, which is that of the host's S16F27 (SEMI E94; table 15). Head of queue
 /// has none.
 #[tactic(auto, using(crate::proofs::JobRows::control_listed))]
-fn control_job_rows(plant: &Plant, job: JobId, cmd: u8) -> ArrayVec<Firing, 3>
-    ensures rows { result.items ≡ operator_rows (oper.CtlJob job cmd) plant.now }
-    ensures listed { Are IsListed result.items }
+fn control_job_row(plant: &Plant, job: JobId, cmd: u8) -> Option<Firing>
+    ensures rows { option_to_list result ≡ operator_rows (oper.CtlJob job cmd) plant.now }
+    ensures listed { Are IsListed (option_to_list result) }
 {
     match control_command(job.text(), cmd, plant.jobs()) {
-        Some(QueueAct::Fires(row)) => one(Some(row)),
-        Some(QueueAct::Heads) | None => one(None),
+        Some(QueueAct::Fires(row)) => Some(row),
+        Some(QueueAct::Heads) | None => None,
     }
 }
 
-/// The direct rows of an operator's command, in their order (this tool's profile, direct rows).
-fn operator_rows(plant: &Plant, command: &OperCmd) -> ArrayVec<Firing, 3>
-    ensures rows { result.items ≡ operator_rows command.now plant.now }
-    ensures listed { Are IsListed result.items }
+/// The direct row of an operator's command, if it has one (this tool's profile, direct rows). It is another command than `disable`, which
+/// alone has more.
+fn operator_row(plant: &Plant, command: &OperCmd) -> Option<Firing>
+    requires { command.now ≡ oper.Disable → ⊥ }
+    ensures rows { option_to_list result ≡ operator_rows command.now plant.now }
+    ensures listed { Are IsListed (option_to_list result) }
 {
     match command {
-        OperCmd::Enable => one(Some(by_comm(CommTrigger::Enable))),
-        OperCmd::Disable => plant.disable_rows(),
-        OperCmd::Online => one(Some(plant.by_control(ControlTrigger::Online))),
-        OperCmd::Offline => one(Some(plant.by_control(ControlTrigger::Offline))),
-        OperCmd::Local => one(Some(plant.by_control(ControlTrigger::Local))),
-        OperCmd::Remote => one(Some(plant.by_control(ControlTrigger::Remote))),
-        OperCmd::Service(port, on) => one(Some(at_port(Table::Transfer, *on, *port))),
-        OperCmd::Access(port, auto) => one(Some(at_port(Table::Access, *auto, *port))),
-        OperCmd::Up(m) => one(Some(Firing::of(Table::Moves, u64::from(m.0), 10))),
-        OperCmd::Lost(sub) => one(plant.lost_row(*sub)),
-        OperCmd::Job(job, word) => job_rows(plant, *job, *word),
-        OperCmd::CtlJob(job, cmd) => control_job_rows(plant, *job, *cmd),
-        OperCmd::Clear(_) | OperCmd::Quit => one(None),
+        OperCmd::Enable => Some(by_comm(CommTrigger::Enable)),
+        OperCmd::Online => Some(plant.by_control(ControlTrigger::Online)),
+        OperCmd::Offline => Some(plant.by_control(ControlTrigger::Offline)),
+        OperCmd::Local => Some(plant.by_control(ControlTrigger::Local)),
+        OperCmd::Remote => Some(plant.by_control(ControlTrigger::Remote)),
+        OperCmd::Service(port, on) => Some(at_port(Table::Transfer, *on, *port)),
+        OperCmd::Access(port, auto) => Some(at_port(Table::Access, *auto, *port)),
+        OperCmd::Up(m) => Some(Firing::of(Table::Moves, u64::from(m.0), 10)),
+        OperCmd::Lost(sub) => plant.lost_row(*sub),
+        OperCmd::Job(job, word) => job_row(plant, *job, *word),
+        OperCmd::CtlJob(job, cmd) => control_job_row(plant, *job, *cmd),
+        OperCmd::Clear(_) | OperCmd::Quit | OperCmd::Disable => None,
     }
 }
 
-/// Whether the first of these rows starts at the present state.
-fn can_fire(plant: &Plant, rows: &[Firing]) -> bool
-    requires { Are IsListed rows.now }
-    ensures { result ≡ can_fire plant.now rows.now }
+/// Whether a row starts at the present state, where there is one.
+fn can_fire(plant: &Plant, row: Option<Firing>) -> bool
+    requires { Are IsListed (option_to_list row) }
+    ensures { result ≡ can_fire plant.now (option_to_list row) }
 {
-    match rows.first() {
-        Some(row) => plant.row_starts(*row),
+    match row {
+        Some(row) => plant.row_starts(row),
         None => false,
     }
+}
+
+/// Whether the operator can disable communication: its row starts.
+fn can_disable(plant: &Plant) -> bool
+    ensures { result ≡ is_accepted oper.Disable plant.now }
+{
+    plant.row_starts(by_comm(CommTrigger::Disable))
 }
 
 /// Whether the operator can clear an alarm: it is set, and no module's.
@@ -124,24 +120,24 @@ fn is_accepted(plant: &Plant, command: &OperCmd) -> bool
         OperCmd::Clear(alid) => can_clear(plant, *alid),
         OperCmd::Access(port, _) => plant.has_port(*port),
         OperCmd::CtlJob(job, cmd) => can_command(plant, *job, *cmd),
+        OperCmd::Disable => can_disable(plant),
         OperCmd::Enable
-        | OperCmd::Disable
         | OperCmd::Online
         | OperCmd::Offline
         | OperCmd::Service(_, _)
         | OperCmd::Quit
         | OperCmd::Job(_, _)
         | OperCmd::Up(_)
-        | OperCmd::Lost(_) => first_starts(plant, command),
+        | OperCmd::Lost(_) => row_starts(plant, command),
     }
 }
 
-/// Whether the first row of an operator's command starts at the present state.
-fn first_starts(plant: &Plant, command: &OperCmd) -> bool
+/// Whether the row of an operator's command, another than `disable`, starts at the present state.
+fn row_starts(plant: &Plant, command: &OperCmd) -> bool
+    requires { command.now ≡ oper.Disable → ⊥ }
     ensures { result ≡ can_fire plant.now (operator_rows command.now plant.now) }
 {
-    let rows = operator_rows(plant, command);
-    can_fire(plant, rows.as_slice())
+    can_fire(plant, operator_row(plant, command))
 }
 
 /// The alarm of a module is cleared that can come up.
@@ -203,17 +199,41 @@ pub fn operator(plant: &mut Plant, alloc: Global, command: &OperCmd) -> Result<R
 {
     match command {
         OperCmd::Quit => quit(plant, alloc),
+        OperCmd::Disable => disable(plant, alloc),
         _ => commanded(plant, alloc, command),
     }
 }
 
-/// An operator's command other than the end of the run: what it changes, and then its rows.
+/// The operator disables communication: every open transaction fails.
+#[inline(never)]
+fn disable(plant: &mut Plant, alloc: Global) -> Result<Reaction, AllocError>
+    ensures { IfOk result (λ reaction. operated oper.Disable plant.old ≡ outcome_of reaction plant.new) }
+{
+    let accepted = can_disable(plant);
+    let rows = plant.disable_rows();
+    plant.fire_listed(alloc, rows.as_slice())?;
+    Ok(Reaction::answered(Answer::Oper(accepted)))
+}
+
+/// A row fires, where there is one and it starts.
+fn fire_row(plant: &mut Plant, alloc: Global, row: Option<Firing>) -> Result<(), AllocError>
+    requires { Are IsListed (option_to_list row) }
+    ensures { OnOk result (plant.new ≡ fire_listed (option_to_list row) plant.old) }
+{
+    match row {
+        Some(row) => plant.fire_listed(alloc, &[row]),
+        None => Ok(()),
+    }
+}
+
+/// An operator's command other than `disable` and the end of the run: what it changes, and then its row.
 fn commanded(plant: &mut Plant, alloc: Global, command: &OperCmd) -> Result<Reaction, AllocError>
+    requires { command.now ≡ oper.Disable → ⊥ }
     ensures { IfOk result (λ reaction. answered (answer.Oper (is_accepted command.now plant.old)) (fires (operator_rows command.now) (switched command.now plant.old)) ≡ outcome_of reaction plant.new) }
 {
     let accepted = is_accepted(plant, command);
     switch(plant, alloc, command)?;
-    let rows = operator_rows(plant, command);
-    plant.fire_listed(alloc, rows.as_slice())?;
+    let row = operator_row(plant, command);
+    fire_row(plant, alloc, row)?;
     Ok(Reaction::answered(Answer::Oper(accepted)))
 }

@@ -11,7 +11,7 @@ use Rattle.gem_model.specs.Noting.{noted_as}
 use Rattle.gem_model.specs.Fire.{fire}
 
 -- a row that changes the states of the spool alone, and then its note
-pub restated_fires : (g h : State) (row : ℕ) → h ≡ record g { line = restated row g.line } → row_effect (around g) row g.line ≡ restated row g.line → (row == 12) ≡ false → (row == 13) ≡ false → noted_as 3 row [] (is_online g.control) h ≡ fire g (firing 3 0 row)
+pub restated_fires : (g h : State) (row : ℕ) → h ≡ record g { line = restated row g.line } → row_effect (around g) row 0 g.line ≡ restated row g.line → (row == 12) ≡ false → (row == 13) ≡ false → noted_as 3 row [] (is_online g.control) h ≡ fire g (firing 3 0 row)
 restated_fires g h row is same not_12 not_13 = rw (not_12, not_13, same, is) refl
 
 -- ---- rows that inputs fire

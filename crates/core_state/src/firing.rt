@@ -46,15 +46,15 @@ impl Plant {
         control.fire(row)
     }
 
-    /// Whether a row of the line of notes starts that inputs fire.
+    /// Whether a row of the line of notes starts that inputs fire, at the note of a number.
     #[tactic(auto, using(crate::proofs::LineRows::may_unload, crate::proofs::LineRows::not_direct))]
-    fn line_starts(&self, row: u8) -> bool
+    fn line_starts(&self, row: u8, note: u64) -> bool
         requires { is_direct row ≡ true }
-        ensures { result ≡ line_starts (around self.now) row self.now.line }
+        ensures { result ≡ line_starts (around self.now) row note self.now.line }
     {
         match row {
             4 | 5 => self.line.notes().rsda() == 0,
-            14 => self.line.notes().open_note().is_some(),
+            14 => self.line.notes().has_open(note),
             _ => false,
         }
     }
@@ -67,18 +67,18 @@ impl Plant {
         match Table::of(f.row.table) {
             Some(Table::Communication) => self.comm_starts(f.row.row),
             Some(Table::Control) => self.control_starts(f.row.row),
-            Some(Table::Line) => self.line_starts(f.row.row),
+            Some(Table::Line) => self.line_starts(f.row.row, f.object),
             _ => self.floor.floor().starts(f),
         }
     }
 
     // ---- rows that an input lists
 
-    /// A row of the line of notes fires that inputs fire, and that starts.
-    fn line_direct(&mut self, row: u8)
+    /// A row of the line of notes fires that inputs fire, and that starts, at the note of a number.
+    fn line_direct(&mut self, row: u8, note: u64)
         requires direct { is_direct row ≡ true }
-        requires starts { line_starts (around self.old) row self.old.line ≡ true }
-        ensures { self.new ≡ fire self.old (firing 3 0 row) }
+        requires starts { line_starts (around self.old) row note self.old.line ≡ true }
+        ensures { self.new ≡ fire self.old (firing 3 note row) }
     {
         let around = self.around();
         match row {
@@ -88,7 +88,7 @@ impl Plant {
             5 => {
                 self.line.begin_unload(1, around);
             }
-            _ => self.line.fail_open(around),
+            _ => self.line.fail_open(note, around),
         }
     }
 
@@ -108,7 +108,7 @@ impl Plant {
             return Ok(Vec::new(alloc));
         }
         if f.row.is_of(Table::Line) {
-            self.line_direct(f.row.row);
+            self.line_direct(f.row.row, f.object);
             return Ok(Vec::new(alloc));
         }
         self.floor_row(alloc, f)

@@ -1,9 +1,9 @@
 //! The line of notes with its spool (table 3). Which of its rows is ready, and what that row sends, is told by `core_settling`.
-ghost use Rattle.std.specs.Prelude.{true, ◌≡◌, ◌==◌, false, length, None, OnOk, Some};
+ghost use Rattle.std.specs.Prelude.{true, ◌≡◌, ◌==◌, false, length, OnOk, Some};
 ghost use Rattle.gem_tables.specs.Table.{firing};
 ghost use Rattle.spool.specs.Spool.{is_inactive, rsda};
 ghost use Rattle.note_line.specs.Line.{answered, fate_of, open_head, open_oldest, restated, with_kinds};
-ghost use Rattle.note_line.specs.Table3.{least, head_in_kind, row_effect};
+ghost use Rattle.note_line.specs.Table3.{least, head_in_kind, may_open, row_effect};
 ghost use Rattle.note_line.specs.Counts.{answered_count, dropped_count};
 ghost use Rattle.gem_model.specs.State.{around};
 ghost use Rattle.gem_model.specs.Fire.{fire};
@@ -33,7 +33,7 @@ impl Plant {
     /// A row fires that changes the states of the spool alone, and makes its note. `AllocError`: memory ran out.
     #[tactic(auto, using(crate::proofs::LineRows::restated_fires))]
     pub fn restate(&mut self, alloc: Global, row: u8) -> Result<(), AllocError>
-        requires states { row_effect (around self.old) row self.old.line ≡ restated row self.old.line }
+        requires states { row_effect (around self.old) row 0 self.old.line ≡ restated row self.old.line }
         requires not_12 { (row == 12) ≡ false }
         requires not_13 { (row == 13) ≡ false }
         ensures { OnOk result (self.new ≡ fire self.old (firing 3 0 row)) }
@@ -67,9 +67,9 @@ impl Plant {
         self.line.drop_head();
     }
 
-    /// The oldest spooled note is open, where one is spooled. No note is open before.
+    /// The oldest spooled note is open, where one is spooled. Fewer notes are open than may be.
     pub fn open_oldest(&mut self)
-        requires { self.old.line.opened ≡ None }
+        requires { may_open self.old.line ≡ true }
         ensures { self.new ≡ record self.old { line = open_oldest self.old.line } }
     {
         self.line.open_oldest();
@@ -83,13 +83,11 @@ impl Plant {
         self.line.open_head(around);
     }
 
-    /// The open note is answered, where one is open.
-    pub fn answer_note(&mut self)
-        ensures { self.new ≡ record self.old { line = answered self.old.line } }
+    /// The note of a number is answered, where it is open.
+    pub fn answer_note(&mut self, number: u64)
+        ensures { self.new ≡ record self.old { line = answered number self.old.line } }
     {
-        if self.line.notes().open_note().is_some() {
-            self.line.answer_open();
-        }
+        self.line.answer_open(number);
     }
 
     /// Whether the spool is INACTIVE.

@@ -64,10 +64,10 @@ pub(crate) fn first_told(alloc: Global, config: &Config) -> Result<Told, AllocEr
 /// A line without a note, and the floor.
 pub(crate) fn first_kept(alloc: Global, config: &Config) -> Result<Kept, AllocError>
     requires { IsConfig config.now }
-    ensures { IfOk result (λ first. (first.line ≡ notes.opening config.now.spool_capacity (first_kinds config.now.spool_streams)) × (first.floor ≡ floors.opening config.now.ports config.now.chambers config.now.recipes)) }
+    ensures { IfOk result (λ first. (first.line ≡ notes.opening config.now.spool_capacity config.now.window (first_kinds config.now.spool_streams)) × (first.floor ≡ floors.opening config.now.ports config.now.chambers config.now.recipes)) }
 {
     let kinds = first_kinds(config.spool_streams);
-    let line = CountedLine::new(alloc, config.spool_capacity, kinds)?;
+    let line = CountedLine::new(alloc, config.spool_capacity, config.window, kinds)?;
     let recipes = config.recipes.as_slice();
     let floor = ToolFloor::new(alloc, config.ports, config.chambers, recipes)?;
     Ok(Kept { line, floor })

@@ -104,8 +104,8 @@ impl Model for Plant {
 
 impl Plant {
     /// The first state under a configuration that keeps its bounds (docs/profile/configuration.md). `AllocError`: there
-    /// is no room for the transactions that can be open, for the spool, for the carriers, or for what the host may
-    /// set.
+    /// is no room for the transactions that can be open, for the spool, for the notes that can be open, for the carriers, or for what
+    /// the host may set.
     pub fn open(alloc: Global, config: &Config) -> Result<Plant, AllocError>
         requires { IsConfig config.now }
         ensures { IfOk result (λ plant. plant ≡ opening config.now) }
@@ -123,7 +123,7 @@ impl Plant {
         requires constants { settings.constants ≡ first_constants config.now }
         requires reports { told.reports ≡ no_reports config.now.ports config.now.chambers }
         requires alarms { told.alarms ≡ no_alarms config.now.ports config.now.chambers }
-        requires line { kept.line ≡ notes.opening config.now.spool_capacity (first_kinds config.now.spool_streams) }
+        requires line { kept.line ≡ notes.opening config.now.spool_capacity config.now.window (first_kinds config.now.spool_streams) }
         requires floor { kept.floor ≡ floors.opening config.now.ports config.now.chambers config.now.recipes }
         ensures { result ≡ opening config.now }
     {

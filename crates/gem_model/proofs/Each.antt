@@ -46,7 +46,7 @@ pub record EachEnd (P : State → Type 0) : Type 1 where
   pub transactions : (g : State) (t : Table) → P g → P (record g { transactions = t })
   pub waiting : (g : State) (w : List (List ℕ)) → P g → P (record g { waiting = w })
   pub event : (g : State) (e : Option ℕ) (o : Occasion) (online : Bool) → P g → P (record g { line = line_behind e o online g })
-  pub answer : (g : State) → P g → P (record g { line = answered_line g.line })
+  pub answer : (g : State) (number : ℕ) → P g → P (record g { line = answered_line number g.line })
   pub row : (g : State) (f : Firing) → IsEnd f → row_starts g f ≡ true → P g → P (takes_effect g f)
   pub created : (g : State) (d : Firing) → is_creation d ≡ true → P g → P (fire g d)
 
@@ -63,7 +63,7 @@ pub record EachInner (P : State → Type 0) : Type 1 where
   pub event : (g : State) (e : Option ℕ) (o : Occasion) (online : Bool) → P g → P (record g { line = line_behind e o online g })
   pub alarm : (g : State) (alid : ℕ) → P g → P (record g { line = line_with_alarm alid g })
   pub kinds : (g : State) (k : SpooledKinds) → P g → P (record g { line = with_kinds k g.line })
-  pub answer : (g : State) → P g → P (record g { line = answered_line g.line })
+  pub answer : (g : State) (number : ℕ) → P g → P (record g { line = answered_line number g.line })
   pub fetched : (g : State) (number : ℕ) → P g → P (record g { floor = fetched number g.floor })
   pub came : (g : State) (port : ℕ) (name : Option (List ℕ)) (slots : List ℕ) → P g → P (with_arrival port name slots g)
   pub written : (g : State) (a : CarrierAction) → is_done_code (carrier_code a g.floor) ≡ true → P g → P (record g { floor = with_shop (carrier_written a g.floor.shop) g.floor })
@@ -87,7 +87,7 @@ module _ (P : State → Type 0) (each : EachEnd P) where
   end_note : (g : State) (w : What) → P g → P (note_answered w g)
   end_note g what.Establish at = at
   end_note g what.Attempt at = at
-  end_note g (what.Note n) at = each.answer g at
+  end_note g (what.Note n) at = each.answer g n at
 
   pub end_closed : (g : State) (h : Header) (item : Option Data) (one : Open) → P g → P (closed_by h item (Some one) g)
   end_closed g h item one at =
@@ -118,12 +118,13 @@ module _ (P : State → Type 0) (each : EachInner P) where
   pub each_inner : Inner Any P
   each_inner = record {
     switch = each.switch;
-    drawn = λ g t same at. each.transactions g t at;
+    drawn = λ g at. each.transactions g _ at;
     clock = each.clock;
     constants = each.constants;
     reports = each.reports;
     alarms = each.alarms;
-    waiting = each.waiting;
+    frame = λ g h text none at. each.waiting g _ at;
+    handed = λ g frame frames is at. each.waiting g frames at;
     event = each.event;
     alarm = each.alarm;
     kinds = each.kinds;
@@ -134,7 +135,7 @@ module _ (P : State → Type 0) (each : EachInner P) where
     row = λ g f free starts at. each.row g f (free_listed f free) starts at;
     units = row_units P each.came each.alarms each.alarm each.event (λ g f floor starts at. each.row g f (listed_floor f floor) starts at) each.created;
     created = each.created;
-    answered = λ g h item test one found at. end_closed P (each_end P each) g h item one at;
+    answered = λ g h item one found at. end_closed P (each_end P each) g h item one at;
     failed = λ g test one found at. each_timed_out g one at;
     disabled = end_disabled P (each_end P each);
   }

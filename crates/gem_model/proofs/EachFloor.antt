@@ -58,8 +58,8 @@ floor_first : (notes : List Note) (g : State) → SameFloor g (asks_first notes 
 floor_first [] g = refl
 floor_first (note ∷ notes) g = floor_either g _ g _ refl refl
 
-pub floor_line : (g : State) (row : ℕ) → SameFloor g (fire_line row g)
-floor_line g row =
+pub floor_line : (g : State) (row note : ℕ) → SameFloor g (fire_line row note g)
+floor_line g row note =
     floor_either g (row == 12) (asks_first g.line.spool.notes g) (if row == 13 then asks_first g.line.waiting g else g) (floor_first g.line.spool.notes g)
     (floor_either g (row == 13) (asks_first g.line.waiting g) g (floor_first g.line.waiting g) refl)
 
@@ -84,11 +84,11 @@ module _ (F : ToolFloor → Type 0) (each : EachOnFloor F) where
   holds_same g h same at = subst F (sym same) at
 
   by_tables : (first second third : Bool) (f : Firing) (row : ℕ) (g : State) →
-      (if first then comm_starts row g.comm else (if second then control_starts row g.control else (if third then line_starts (around g) row g.line else floor_starts f g.floor))) ≡ true →
-      Holds g → Holds (if first then fire_comm row g else (if second then fire_control row g else (if third then fire_line row g else fire_floor f g)))
+      (if first then comm_starts row g.comm else (if second then control_starts row g.control else (if third then line_starts (around g) row f.object g.line else floor_starts f g.floor))) ≡ true →
+      Holds g → Holds (if first then fire_comm row g else (if second then fire_control row g else (if third then fire_line row f.object g else fire_floor f g)))
   by_tables true second third f row g is at = holds_same g (fire_comm row g) (floor_comm g row) at
   by_tables false true third f row g is at = holds_same g (fire_control row g) (floor_control g row) at
-  by_tables false false true f row g is at = holds_same g (fire_line row g) (floor_line g row) at
+  by_tables false false true f row g is at = holds_same g (fire_line row f.object g) (floor_line g row f.object) at
   by_tables false false false f row g is at = each.row f g.floor is at
 
   -- ---- settling
@@ -97,7 +97,7 @@ module _ (F : ToolFloor → Type 0) (each : EachOnFloor F) where
   at_line g None f here at = none_some f here
   at_line g (Some row) f here at =
       let same : firing 3 0 row ≡ f = cc in
-      subst (λ (x : Firing). Holds (fire g x)) same (holds_same g (fire_line row g) (floor_line g row) at)
+      subst (λ (x : Firing). Holds (fire g x)) same (holds_same g (fire_line row 0 g) (floor_line g row 0) at)
 
   at_one : (g : State) (f one : Firing) → Holds (fire g one) → Some one ≡ Some f → Holds (fire g f)
   at_one g f one at here = let same : one ≡ f = cc in subst (λ (x : Firing). Holds (fire g x)) same at
@@ -132,7 +132,7 @@ module _ (F : ToolFloor → Type 0) (each : EachOnFloor F) where
       event = λ g e o online at. at;
       alarm = λ g alid at. at;
       kinds = λ g k at. at;
-      answer = λ g at. at;
+      answer = λ g number at. at;
       fetched = λ g number at. each.fetched number g.floor at;
       came = λ g port name slots at. each.came port name slots g.floor at;
       written = λ g a is at. each.written a g.floor is at;

@@ -1,5 +1,5 @@
 -- The rows of the line of notes that fire by themselves: which is ready, and what they do.
-use Rattle.std.proofs.Common.{◌≡◌, ℕ, ◌≤◌, List, [], ◌∷◌, Option, Some, None, option_map, refl, subst, arith}
+use Rattle.std.proofs.Common.{◌≡◌, ℕ, ◌≤◌, List, [], ◌∷◌, ◌++◌, Option, Some, None, option_map, refl, subst, arith}
 use Rattle.std.specs.List.{AllByRecursion}
 use Rattle.gem_tables.specs.Table.{firing}
 use Rattle.gem_tables.specs.declared.firing.Firing.{Firing}
@@ -38,10 +38,10 @@ told_enough a l row ready =
     let is = least_is IsTold a l row all_told ready in
     subst (λ (n : ℕ). event_weight (ceid_of 3 n) ≤ told_weight n) is.its_number is.gives
 
--- the first of some notes, or else the one that was open
-abbrev pub opened_by : List Note → Option Note → Option Note
+-- those that were open, and behind them the first of some notes
+abbrev pub opened_by : List Note → List Note → List Note
 opened_by [] before = before
-opened_by (note ∷ notes) before = Some note
+opened_by (note ∷ notes) before = before ++ note ∷ []
 
 pub oldest_opened : (notes : List Note) (l : Line) → (open_oldest_of notes l).opened ≡ opened_by notes l.opened
 oldest_opened [] l = refl

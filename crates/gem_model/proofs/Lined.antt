@@ -85,11 +85,11 @@ lined_fire g f effect =
     (lined_event (ceid_of f.row.table f.row.row) (record { object = object_name g f; row = 100 * f.row.table + f.row.row }) (is_online g.control) (takes_effect g f))
 
 by_tables : (first second third : Bool) (f : Firing) (row : ℕ) (g : State) → (third ≡ true → is_direct row ≡ true) →
-    (if first then comm_starts row g.comm else (if second then control_starts row g.control else (if third then line_starts (around g) row g.line else floor_starts f g.floor))) ≡ true →
-    Lined g (if first then fire_comm row g else (if second then fire_control row g else (if third then fire_line row g else fire_floor f g)))
+    (if first then comm_starts row g.comm else (if second then control_starts row g.control else (if third then line_starts (around g) row f.object g.line else floor_starts f g.floor))) ≡ true →
+    Lined g (if first then fire_comm row g else (if second then fire_control row g else (if third then fire_line row f.object g else fire_floor f g)))
 by_tables true second third f row g listed is = lined_same g (fire_comm row g) (line_comm g row)
 by_tables false true third f row g listed is = lined_same g (fire_control row g) (line_control g row)
-by_tables false false true f row g listed is = direct-keeps (around g) g.line row (listed refl) is
+by_tables false false true f row g listed is = direct-keeps (around g) g.line row f.object (listed refl) is
 by_tables false false false f row g listed is = lined_same g (fire_floor f g) refl
 
 -- ---- the floor
@@ -142,7 +142,7 @@ lined_each g = record {
     event = λ h e o online lined. lined_then g h (record h { line = line_behind e o online h }) lined (lined_event e o online h);
     alarm = λ h alid lined. lined_then g h (record h { line = line_with_alarm alid h }) lined (lined_alarm h alid);
     kinds = λ h k lined. lined_then g h (record h { line = with_kinds k h.line }) lined (kinds-keeps k h.line);
-    answer = λ h lined. lined_then g h (record h { line = answered h.line }) lined (answered-keeps h.line);
+    answer = λ h number lined. lined_then g h (record h { line = answered number h.line }) lined (answered-keeps number h.line);
     fetched = λ h number lined. lined;
     came = λ h port name slots lined. lined;
     written = λ h a is lined. lined;

@@ -37,13 +37,14 @@ use Rattle.gem_rows.specs.Events.{ceid_of}
 use Rattle.std.proofs.lemmas.Bool.{true≢false}
 use Rattle.gem_states.specs.Control.{control_starts}
 use Rattle.gem_states.specs.declared.control.Control.TheVariants.{Attempt}
-use Rattle.gem_model.specs.Fire.{fire, advanced, fire_listed, of_comm, of_control, of_line}
+use Rattle.gem_model.specs.Fire.{fire, advanced, fire_listed, of_comm, of_control, of_line, of_failing}
+use Rattle.note_line.specs.Failing.{failing}
 use Rattle.gem_model.specs.Effects.{control_effect}
 use Rattle.gem_model.specs.Remote.{Decision, refused, goes_local, clears, decided, commands}
 use Rattle.gem_model.specs.HostMessages.{HostMessage, Gem, Shop}
 use Rattle.gem_model.specs.Messages.{done, gem_done, shop_done, port_done, remote_done}
 use Rattle.gem_model.specs.Spooling.{unload_rows}
-use Rattle.gem_model.specs.Direct.{Are, IsListed, by_comm, by_control, note_fails, attempt_fails, all_fail, operator_rows, answer_rows, timeout_rows, session_end_rows, establish_answer, attempt_answer}
+use Rattle.gem_model.specs.Direct.{Are, IsListed, by_comm, by_control, notes_fail, attempt_fails, all_fail, operator_rows, answer_rows, timeout_rows, session_end_rows, establish_answer, attempt_answer}
 use Rattle.gem_model.proofs.Tests.{went, either_way}
 use Rattle.gem_model.proofs.FloorRows.{IsFloorRow, AreFloorRows, IsOfInput, input_transfer, input_access, input_reservation, input_process, input_control, input_module, module_are, shop_are, port_are, service_are, access_are, advanced_keeps, command_are, control_rows_are}
 use Rattle.load_port.specs.declared.action.PortAction.{PortAction}
@@ -111,14 +112,15 @@ listed_control : (rows : List ℕ) → Are IsEnd (of_control rows)
 listed_control [] = tt
 listed_control (row ∷ rows) = (record { listed = λ is. absurd (cc); first_tables = refl }, listed_control rows)
 
-listed_note : Are IsEnd note_fails
-listed_note = (record { listed = λ is. refl; first_tables = refl }, tt)
+listed_failing : (numbers : List ℕ) → Are IsEnd (of_failing numbers)
+listed_failing [] = tt
+listed_failing (number ∷ numbers) = (record { listed = λ is. refl; first_tables = refl }, listed_failing numbers)
 
 listed_attempt : (g : State) → Are IsEnd (attempt_fails g)
 listed_attempt g = either_way (Are IsEnd) (is_some (first_of what.Attempt g.transactions.opened)) (by_control trigger.Failed g) [] (listed_control (control_rows trigger.Failed g.switch_local)) tt
 
 listed_all : (g : State) → Are IsEnd (all_fail g)
-listed_all g = are_both IsEnd (attempt_fails g) note_fails (listed_attempt g) listed_note
+listed_all g = are_both IsEnd (attempt_fails g) (notes_fail g) (listed_attempt g) (listed_failing (failing g.line))
 
 pub listed_answer : (w : What) (function : ℕ) (item : Option Data) (g : State) → Are IsEnd (answer_rows w function item g)
 listed_answer what.Establish function item g = listed_comm (comm_rows (establish_answer function item))
@@ -128,7 +130,7 @@ listed_answer (what.Note n) function item g = tt
 pub listed_timeout : (w : What) (g : State) → Are IsEnd (timeout_rows w g)
 listed_timeout what.Establish g = listed_comm (comm_rows comm.Refused)
 listed_timeout what.Attempt g = listed_control (control_rows trigger.Failed g.switch_local)
-listed_timeout (what.Note n) g = listed_note
+listed_timeout (what.Note n) g = listed_failing (n ∷ [])
 
 pub listed_ended : (g : State) → Are IsEnd (session_end_rows g)
 listed_ended g = are_both IsEnd (by_comm comm.SessionEnd) (all_fail g) (listed_comm (comm_rows comm.SessionEnd)) (listed_all g)

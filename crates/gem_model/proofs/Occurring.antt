@@ -70,7 +70,8 @@ use Rattle.gem_model.proofs.Creating.{control_faultless}
 use Rattle.gem_model.specs.Inputs.{WritesFloor, writes_nothing, writes_arrival, writes_carrier, creates_process, creates_control, makes_head, fetches, WritesLine, keeps_line, tells_alarm, answers_note, sets_kinds, Writes, Leaves, AreFired, Fires}
 use Rattle.gem_model.specs.Occurrences.{Occurrence, RowFires, AlarmChanges, rows_among, on_listed, on_clearing, on_setting, on_placed, on_removed, on_done, on_failed, on_down, on_signal, on_decision, on_message, on_message_rows, on_taken, on_closing, on_data, on_session_end, on_host, on_switched, on_operator, on_due, on_dues, occurrences}
 use Rattle.gem_model.specs.Reported.{Reported, by_advance, by_change, by_occurrence, by_occurrences}
-use Rattle.gem_model.proofs.Telling.{Tells, goes_still, tells_at, tells_then, tells_same, tells_frame_of, tells_advance, tells_change, reply_other, IsOfLink, link_replies}
+use Rattle.gem_model.proofs.Telling.{Tells, goes_still, tells_at, tells_then, tells_same, tells_frame_of, tells_advance, tells_change}
+use Rattle.gem_model.proofs.NoteFrames.{reply_other, IsOfLink, link_replies}
 
 -- ---- lists of occurrences
 
@@ -263,7 +264,7 @@ closed_written one g = of one.what where
   of what.Establish = beside g out refl refl refl refl refl
   of what.Attempt = beside g out refl refl refl refl refl
   of (what.Note n) = record {
-    notes = goes_still g.line (note_answered (what.Note n) g).line g.waiting (answered-tells g.line) (λ P. answered-stands P g.line);
+    notes = goes_still g.line (note_answered (what.Note n) g).line g.waiting (answered-tells n g.line) (λ P. answered-stands P n g.line);
     writes = record { comm = refl; control = refl; line = answers_note; floor = writes_nothing };
     rowless = refl;
   }

@@ -39,13 +39,13 @@ least_there g (m ∷ ms) = ap (λ (x : Option Firing). option_or (first_ready m.
 
 -- ---- by the number of the table
 
-pub starts_as : (g : State) (f : Firing) → row_starts g f ≡ (if f.row.table == 1 then comm_starts f.row.row g.comm else (if f.row.table == 2 then control_starts f.row.row g.control else (if f.row.table == 3 then line_starts (around g) f.row.row g.line else floor_starts f g.floor)))
+pub starts_as : (g : State) (f : Firing) → row_starts g f ≡ (if f.row.table == 1 then comm_starts f.row.row g.comm else (if f.row.table == 2 then control_starts f.row.row g.control else (if f.row.table == 3 then line_starts (around g) f.row.row f.object g.line else floor_starts f g.floor)))
 starts_as g f =
-    ap (λ (b : Bool). if f.row.table == 1 then comm_starts f.row.row g.comm else (if f.row.table == 2 then control_starts f.row.row g.control else (if f.row.table == 3 then line_starts (around g) f.row.row g.line else b))) (starts_there f g floor_machines)
+    ap (λ (b : Bool). if f.row.table == 1 then comm_starts f.row.row g.comm else (if f.row.table == 2 then control_starts f.row.row g.control else (if f.row.table == 3 then line_starts (around g) f.row.row f.object g.line else b))) (starts_there f g floor_machines)
 
-pub effect_as : (g : State) (f : Firing) → takes_effect g f ≡ (if f.row.table == 1 then fire_comm f.row.row g else (if f.row.table == 2 then fire_control f.row.row g else (if f.row.table == 3 then fire_line f.row.row g else fire_floor f g)))
+pub effect_as : (g : State) (f : Firing) → takes_effect g f ≡ (if f.row.table == 1 then fire_comm f.row.row g else (if f.row.table == 2 then fire_control f.row.row g else (if f.row.table == 3 then fire_line f.row.row f.object g else fire_floor f g)))
 effect_as g f =
-    ap (λ (h : State). if f.row.table == 1 then fire_comm f.row.row g else (if f.row.table == 2 then fire_control f.row.row g else (if f.row.table == 3 then fire_line f.row.row g else h))) (fired_there f g floor_machines)
+    ap (λ (h : State). if f.row.table == 1 then fire_comm f.row.row g else (if f.row.table == 2 then fire_control f.row.row g else (if f.row.table == 3 then fire_line f.row.row f.object g else h))) (fired_there f g floor_machines)
 
 pub creations_as : (g : State) (f : Firing) → creations g f ≡ (if f.row.table == 1 then [] else (if f.row.table == 2 then [] else (if f.row.table == 3 then [] else creation_rows f g.floor)))
 creations_as g f =

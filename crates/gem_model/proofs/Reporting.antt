@@ -1,7 +1,6 @@
 -- The notes of the line tell of what is reported, in order; and each note that stands, or is sent, has its text.
 use Rattle.std.proofs.Common.{◌≡◌, ℕ, suc, Bool, true, false, if◌then◌else◌, List, [], ◌∷◌, ◌++◌, length, map, slice_get, Option, Some, None, option_map, refl, sym, ap, subst, arith, append_assoc}
 use Rattle.std.specs.List.{AllByRecursion}
-use Rattle.std.specs.Option.{option_to_list}
 use Rattle.std.proofs.lemmas.List.{length_push}
 use Rattle.spool.specs.declared.note.Note.{Note}
 use Rattle.note_line.specs.Line.{next, standing}
@@ -100,9 +99,9 @@ run_out P g (e ∷ entries) h run stands new waits =
     let stand = goes.stand P stands parts.0 in
     let wait = goes.frames P stands parts.0 waits in
     let behind = run_out P k entries h run.2 stand parts.1 wait in
-    let opened = all_first P (option_to_list k.line.opened) (k.line.spool.notes ++ k.line.waiting) stand in
-    subst (λ (s : State). AllByRecursion P (option_to_list s.line.opened ++ open_behind s entries) × AllByRecursion (Carries P) (s.waiting ++ frames_behind s entries)) (sym same)
-    (all_joined P (option_to_list k.line.opened) (open_behind k entries) opened behind.0, all_joined (Carries P) k.waiting (frames_behind k entries) wait behind.1)
+    let opened = all_first P k.line.opened (k.line.spool.notes ++ k.line.waiting) stand in
+    subst (λ (s : State). AllByRecursion P (s.line.opened ++ open_behind s entries) × AllByRecursion (Carries P) (s.waiting ++ frames_behind s entries)) (sym same)
+    (all_joined P k.line.opened (open_behind k entries) opened behind.0, all_joined (Carries P) k.waiting (frames_behind k entries) wait behind.1)
 
 run_all_out : (c : Config) (entries : List Entry) (h : State) → Run (opening c) entries h → AllByRecursion (IsOf (reported_in (opening c) entries)) (open_behind (opening c) entries) × AllByRecursion (Carries (IsOf (reported_in (opening c) entries))) (frames_behind (opening c) entries)
 run_all_out c entries h run =

@@ -76,8 +76,8 @@ same_asks_first : (g : State) (notes : List Note) → Same g (asks_first notes g
 same_asks_first g [] = same_at g
 same_asks_first g (note ∷ notes) = same_asks g g (stream_of_kind note.kind) (function_of_kind note.kind) (what.Note note.number) note.text (same_at g)
 
-same_line : (g : State) (row : ℕ) → Same g (fire_line row g)
-same_line g row =
+same_line : (g : State) (row note : ℕ) → Same g (fire_line row note g)
+same_line g row note =
     let sent : Same g (line_effect row g) = same_either g (row == 12) (asks_first g.line.spool.notes g) (if row == 13 then asks_first g.line.waiting g else g) (same_asks_first g g.line.spool.notes)
     (same_either g (row == 13) (asks_first g.line.waiting g) g (same_asks_first g g.line.waiting) (same_at g)) in
     record { config = sent.config; link = sent.link; quitting = sent.quitting }
@@ -85,9 +85,9 @@ same_line g row =
 same_effect : (g : State) (f : Firing) → Same g (takes_effect g f)
 same_effect g f =
     subst (Same g) (sym (effect_as g f))
-    (same_either g (f.row.table == 1) (fire_comm f.row.row g) (if f.row.table == 2 then fire_control f.row.row g else (if f.row.table == 3 then fire_line f.row.row g else fire_floor f g)) (same_comm g f.row.row)
-    (same_either g (f.row.table == 2) (fire_control f.row.row g) (if f.row.table == 3 then fire_line f.row.row g else fire_floor f g) (same_control g f.row.row)
-    (same_either g (f.row.table == 3) (fire_line f.row.row g) (fire_floor f g) (same_line g f.row.row) (record { config = refl; link = refl; quitting = refl }))))
+    (same_either g (f.row.table == 1) (fire_comm f.row.row g) (if f.row.table == 2 then fire_control f.row.row g else (if f.row.table == 3 then fire_line f.row.row f.object g else fire_floor f g)) (same_comm g f.row.row)
+    (same_either g (f.row.table == 2) (fire_control f.row.row g) (if f.row.table == 3 then fire_line f.row.row f.object g else fire_floor f g) (same_control g f.row.row)
+    (same_either g (f.row.table == 3) (fire_line f.row.row f.object g) (fire_floor f g) (same_line g f.row.row f.object) (record { config = refl; link = refl; quitting = refl }))))
 
 pub same_fire : (g : State) (f : Firing) → Same g (fire g f)
 same_fire g f = let effect = same_effect g f in record { config = effect.config; link = effect.link; quitting = effect.quitting }
@@ -122,7 +122,7 @@ same_each g = record {
   event = λ h e o online same. record { config = same.config; link = same.link; quitting = same.quitting };
   alarm = λ h alid same. record { config = same.config; link = same.link; quitting = same.quitting };
   kinds = λ h k same. record { config = same.config; link = same.link; quitting = same.quitting };
-  answer = λ h same. record { config = same.config; link = same.link; quitting = same.quitting };
+  answer = λ h number same. record { config = same.config; link = same.link; quitting = same.quitting };
   fetched = λ h number same. record { config = same.config; link = same.link; quitting = same.quitting };
   came = λ h port name slots same. record { config = same.config; link = same.link; quitting = same.quitting };
   written = λ h a is same. record { config = same.config; link = same.link; quitting = same.quitting };

@@ -1,15 +1,9 @@
 -- The notes that a change of the line makes, and the frames that go with them.
 use Rattle.std.proofs.Common.{◌≡◌, ◌<◌, ℕ, suc, ◌+◌, ◌%◌, ◌==◌, Bool, true, false, if◌then◌else◌, List, [], ◌∷◌, ◌++◌, length, map, Option, Some, None, refl, sym, ◌∙◌, ap, subst, arith, append_assoc, length-append}
 use Rattle.std.specs.List.{AllByRecursion}
-use Rattle.std.specs.Option.{option_to_list}
 use Rattle.std.proofs.lemmas.Bool.Decides.{nat_tests}
-use Rattle.std.proofs.lemmas.Nat.{mod_below}
 use Rattle.std.proofs.lemmas.List.{append-nil, length-map, map-append}
 use Rattle.hsms_frame.specs.declared.frame.Header.{Header}
-use Rattle.hsms_link.specs.declared.table.LinkAct.{LinkAct}
-use Rattle.hsms_link.specs.declared.table.LinkAct.TheVariants as link
-use Rattle.hsms_link.specs.declared.state.LinkState.{LinkState}
-use Rattle.hsms_link.specs.LinkTable.{LinkRow, link_act, link_table, first_act}
 use Rattle.hsms_frame.specs.Spelling.{message_bytes}
 use Rattle.gem_tables.specs.declared.firing.Firing.{Firing}
 use Rattle.gem_rows.specs.Events.{ceid_of}
@@ -155,30 +149,6 @@ frames_first P g (note ∷ notes) are waits =
     (with_frame (data_frame g.config.device true stream function (drawn g.transactions) note.text) (record g { transactions = after_start stream function (g.moment + t3 g) (what.Note note.number) g.transactions }))
     waits (all_joined (Carries P) g.waiting _ waits (of_note g.config.device (drawn g.transactions) note refl are.0, tt))
 
--- a reply lacks the W-bit
-pub reply_other : (device stream function system : ℕ) → sends_note (data_header device false stream function system) ≡ false
-reply_other device stream function system =
-    let less : stream % 128 < 128 = mod_below stream 128 (omega arith) in
-    let events : (0 + stream % 128 == 134) ≡ false = grind (arith, nat_tests, less) in
-    let alarms : (0 + stream % 128 == 133) ≡ false = grind (arith, nat_tests, less) in
-    rw (events, alarms) refl
-
--- what the link table answers is none of a note
-abbrev pub IsOfLink : LinkAct → Type 0
-IsOfLink act = (k : Header) → act ≡ link.Reply k → sends_note k ≡ false
-
-pub link_replies : (h : Header) (l : LinkState) → IsOfLink (link_act h l)
-link_replies h l = of link_table rows where
-  reply_is : (k m : Header) → sends_note k ≡ false → link.Reply k ≡ link.Reply m → sends_note m ≡ false
-  reply_is k m other same = let it : k ≡ m = cc in subst (λ (x : Header). sends_note x ≡ false) it other
-
-  rows : AllByRecursion (λ (one : LinkRow). IsOfLink (one.act h)) link_table
-  rows = ((λ k e. reply_is _ k refl e), ((λ k e. reply_is _ k refl e), ((λ k e. absurd (cc)), ((λ k e. reply_is _ k refl e), ((λ k e. reply_is _ k refl e), ((λ k e. reply_is _ k refl e), ((λ k e. absurd (cc)), ((λ k e. reply_is _ k refl e), ((λ k e. reply_is _ k refl e), ((λ k e. absurd (cc)), ((λ k e. absurd (cc)), ((λ k e. absurd (cc)), ((λ k e. reply_is _ k refl e), tt)))))))))))))
-
-  of : (all : List LinkRow) → AllByRecursion (λ (one : LinkRow). IsOfLink (one.act h)) all → IsOfLink (first_act all h l)
-  of [] are k e = absurd (cc)
-  of (one ∷ others) are k e = either_way IsOfLink (one.fits h l) (one.act h) (first_act others h l) are.0 (of others are.1) k e
-
 -- ---- firings
 
 -- the effect of a row makes no note, and sends none but such as stand
@@ -194,9 +164,9 @@ frames_control P g row waits =
     control_effect_case (λ (k : State). AllByRecursion (Carries P) k.waiting) (row_of control_table row) h waits
     (frames_asks P h 1 1 what.Attempt [] (λ system. refl) waits) waits
 
-frames_line : (P : Note → Type 0) (g : State) (row : ℕ) → AllByRecursion P (standing g.line) → Frames P g (fire_line row g)
-frames_line P g row all waits =
-    let behind = all_second P (option_to_list g.line.opened) (g.line.spool.notes ++ g.line.waiting) all in
+frames_line : (P : Note → Type 0) (g : State) (row note : ℕ) → AllByRecursion P (standing g.line) → Frames P g (fire_line row note g)
+frames_line P g row note all waits =
+    let behind = all_second P g.line.opened (g.line.spool.notes ++ g.line.waiting) all in
     either_way (λ (h : State). AllByRecursion (Carries P) h.waiting) (row == 12) (asks_first g.line.spool.notes g) (if row == 13 then asks_first g.line.waiting g else g)
     (frames_first P g g.line.spool.notes (all_first P g.line.spool.notes g.line.waiting behind) waits)
     (either_way (λ (h : State). AllByRecursion (Carries P) h.waiting) (row == 13) (asks_first g.line.waiting g) g
@@ -207,12 +177,12 @@ tells_effect g f = subst (Tells g []) (sym (effect_as g f)) (of (f.row.table == 
   row : ℕ
   row = f.row.row
 
-  of : (first second third : Bool) → Tells g [] (if first then fire_comm row g else (if second then fire_control row g else (if third then fire_line row g else fire_floor f g)))
+  of : (first second third : Bool) → Tells g [] (if first then fire_comm row g else (if second then fire_control row g else (if third then fire_line row f.object g else fire_floor f g)))
   of true second third = tells_same g (fire_comm row g) (line_comm g row) (λ P all. frames_comm P g row)
   of false true third = tells_same g (fire_control row g) (line_control g row) (λ P all. frames_control P g row)
   of false false true =
-      goes_quiet g.line (fire_line row g).line g.waiting (fire_line row g).waiting (row-tells (around g) row g.line)
-      (λ P. row-stands P (around g) row g.line) (λ P. frames_line P g row)
+      goes_quiet g.line (fire_line row f.object g).line g.waiting (fire_line row f.object g).waiting (row-tells (around g) row f.object g.line)
+      (λ P. row-stands P (around g) row f.object g.line) (λ P. frames_line P g row f.object)
   of false false false = tells_at g
 
 -- a note is made exactly where the event is reported

@@ -13,7 +13,7 @@ use Rattle.hsms_link.specs.declared.state.Phase.TheVariants.{Down, NotSelected, 
 use Rattle.hsms_link.specs.declared.deadlines.LinkDue.{LinkDue}
 use Rattle.hsms_link.specs.declared.deadlines.LinkDue.TheVariants as due
 use Rattle.std.proofs.lemmas.Bool.{true≢false}
-use Rattle.transactions.specs.Endings.{answers, first_expired, is_first_expired}
+use Rattle.transactions.specs.Endings.{answered as found_open, first_expired, is_first_expired}
 use Rattle.process_job.specs.Creating.{create_fault}
 use Rattle.process_job.specs.declared.job.JobSpec.{JobSpec}
 use Rattle.control_job.specs.Commands.{command_answer}
@@ -58,8 +58,12 @@ use Rattle.transactions.specs.declared.transaction.Open.{Open}
 use Rattle.transactions.specs.declared.transaction.What.{What}
 use Rattle.transactions.specs.declared.transaction.What.TheVariants as what
 use Rattle.transactions.specs.Table.{taken_out, without}
-use Rattle.gem_model.specs.State.{State, is_up, is_session_up, raised}
-use Rattle.gem_model.specs.Sending.{sends_stream9, data_header}
+use Rattle.hsms_frame.specs.Spelling.{message_bytes}
+use Rattle.transactions.specs.SystemBytes.{drawn}
+use Rattle.gem_model.specs.State.{State, is_up, is_session_up, raised, with_frame}
+use Rattle.gem_model.specs.Sending.{draws, sends_stream9, stream9_text, data_header}
+use Rattle.gem_model.specs.OpenNotes.{sends_note}
+use Rattle.gem_model.proofs.NoteFrames.{reply_other, IsOfLink, link_replies}
 use Rattle.gem_model.specs.Noting.{sets_alarm, clears_alarm}
 use Rattle.gem_model.specs.Fire.{fire, fires, fire_listed}
 use Rattle.gem_model.specs.Machines.{row_starts, least, takes_effect}
@@ -119,11 +123,14 @@ pub record Units (Rest : Event → State → Type 0) (P : State → Type 0) : Ty
 pub record Inner (Rest : Event → State → Type 0) (P : State → Type 0) : Type 1 where
   pub clock : (g : State) (c : Clock) → P g → P (record g { clock = c })
   pub switch : (g : State) (b : Bool) → P g → P (record g { switch_local = b })
-  pub drawn : (g : State) (t : Table) → t.opened ≡ g.transactions.opened → P g → P (record g { transactions = t })
+  -- system bytes are drawn
+  pub drawn : (g : State) → P g → P (draws g)
   pub constants : (g : State) (c : List (ℕ × Val)) → P g → P (record g { constants = c })
   pub reports : (g : State) (r : Reports) → P g → P (record g { reports = r })
   pub alarms : (g : State) (a : List AlarmLine) → P g → P (record g { alarms = a })
-  pub waiting : (g : State) (w : List (List ℕ)) → P g → P (record g { waiting = w })
+  -- a frame that sends no note comes behind those that wait for the writer; the oldest is handed out
+  pub frame : (g : State) (h : Header) (text : List ℕ) → sends_note h ≡ false → P g → P (with_frame (message_bytes h text) g)
+  pub handed : (g : State) (frame : List ℕ) (frames : List (List ℕ)) → g.waiting ≡ frame ∷ frames → P g → P (record g { waiting = frames })
   pub event : (g : State) (e : Option ℕ) (o : Occasion) (online : Bool) → P g → P (record g { line = line_behind e o online g })
   pub alarm : (g : State) (alid : ℕ) → P g → P (record g { line = line_with_alarm alid g })
   pub kinds : (g : State) (k : SpooledKinds) → P g → P (record g { line = with_kinds k g.line })
@@ -135,7 +142,8 @@ pub record Inner (Rest : Event → State → Type 0) (P : State → Type 0) : Ty
   pub row : (g : State) (f : Firing) → IsFree f → row_starts g f ≡ true → P g → P (takes_effect g f)
   pub units : Units Rest P
   pub created : (g : State) (d : Firing) → is_creation d ≡ true → P g → P (fire g d)
-  pub answered : (g : State) (h : Header) (item : Option Data) (test : Open → Bool) (one : Open) → find test g.transactions.opened ≡ Some one → P g → P (closed_by h item (Some one) g)
+  -- a message answers the transaction that has its system bytes, its stream and its function
+  pub answered : (g : State) (h : Header) (item : Option Data) (one : Open) → found_open h.system (stream_of h) (function_of h) g.transactions.opened ≡ Some one → P g → P (closed_by h item (Some one) g)
   pub failed : (g : State) (test : Open → Bool) (one : Open) → find test g.transactions.opened ≡ Some one → P g → P (timed_out one g)
   pub disabled : (g : State) → P g → P (fires (operator_rows oper.Disable) g)
 
@@ -209,7 +217,7 @@ told_of one g = sends_stream9 9 (data_header g.config.device true one.stream one
 pub opened_timeout : (w : What) (g : State) → (fire_listed (timeout_rows w g) g).transactions.opened ≡ g.transactions.opened
 opened_timeout what.Establish g = either_way (λ (h : State). h.transactions.opened ≡ g.transactions.opened) (row_starts g (firing 1 0 5)) (fire g (firing 1 0 5)) g refl refl
 opened_timeout what.Attempt g = either_way (λ (h : State). h.transactions.opened ≡ g.transactions.opened) (row_starts g (firing 2 0 3)) (fire g (firing 2 0 3)) g refl refl
-opened_timeout (what.Note n) g = either_way (λ (h : State). h.transactions.opened ≡ g.transactions.opened) (row_starts g (firing 3 0 14)) (fire g (firing 3 0 14)) g refl refl
+opened_timeout (what.Note n) g = either_way (λ (h : State). h.transactions.opened ≡ g.transactions.opened) (row_starts g (firing 3 n 14)) (fire g (firing 3 n 14)) g refl refl
 
 where_true : {A : Type 0} (Q : A → Type 0) (b : Bool) (x y : A) → (b ≡ true → Q x) → Q y → Q (if b then x else y)
 where_true Q true x y at_x at_y = at_x refl
@@ -294,7 +302,7 @@ module _ (Rest : Event → State → Type 0) (P : State → Type 0) (inner : Inn
   kept_done g (Shop m) at = kept_shop m g at
 
   kept_replied : (g : State) (h : Header) (function : ℕ) (text : List ℕ) → P g → P (replied h function text g)
-  kept_replied g h function text at = either_way P (wants_reply h) _ g (inner.waiting g _ at) at
+  kept_replied g h function text at = either_way P (wants_reply h) _ g (inner.frame g (data_header g.config.device false (stream_of h) function h.system) text (reply_other g.config.device (stream_of h) function h.system) at) at
 
   -- a message whose rows keep the fact by themselves
   kept_free : (g : State) (h : Header) (m : HostMessage) → Are IsFree (done g m).rows → P g → P (taken h m g)
@@ -332,18 +340,19 @@ module _ (Rest : Event → State → Type 0) (P : State → Type 0) (inner : Inn
   kept_taken g h (Shop S16F21) at = kept_free g h (Shop S16F21) tt at
   kept_taken g h (Shop (S16F27 job command value)) at = kept_free g h (Shop (S16F27 job command value)) (free_jobs (S16F27 job command value) g refl) at
 
-  kept_closed : (g : State) (h : Header) (item : Option Data) (test : Open → Bool) (one : Option Open) → find test g.transactions.opened ≡ one → P g → P (closed_by h item one g)
-  kept_closed g h item test None found at = at
-  kept_closed g h item test (Some one) found at = inner.answered g h item test one found at
+  kept_closed : (g : State) (h : Header) (item : Option Data) (one : Option Open) → found_open h.system (stream_of h) (function_of h) g.transactions.opened ≡ one → P g → P (closed_by h item one g)
+  kept_closed g h item None found at = at
+  kept_closed g h item (Some one) found at = inner.answered g h item one found at
 
   kept_stream9 : (g : State) (function : ℕ) (h : Header) → P g → P (sends_stream9 function h g)
-  kept_stream9 g function h at = inner.waiting (record g { transactions = _ }) _ (inner.drawn g _ refl at)
+  kept_stream9 g function h at =
+      inner.frame (draws g) (data_header g.config.device false 9 function (drawn g.transactions)) (stream9_text h) (reply_other g.config.device 9 function (drawn g.transactions)) (inner.drawn g at)
 
   pub kept_act : (g : State) (h : Header) (item : Option Data) (v : Verdict) → P g → P (data_act h item v g)
   kept_act g h item Discarded at = at
   kept_act g h item (Stream9 function) at = kept_stream9 g function h at
   kept_act g h item Aborted at = kept_replied g h 0 [] at
-  kept_act g h item Answers at = kept_closed g h item (answers h.system (stream_of h) (function_of h)) _ refl at
+  kept_act g h item Answers at = kept_closed g h item _ refl at
   kept_act g h item (Taken m) at = kept_taken g h m at
 
   pub kept_switched : (command : OperCmd) (g : State) → P g → P (switched command g)
@@ -428,7 +437,7 @@ module _ (Rest : Event → State → Type 0) (P : State → Type 0) (kept : Acti
       kept_by_rows Rest P kept.inner (oper.CtlJob job command) g (free_control job command (jobs_of h)) at
 
   kept_linktest : (g : State) → P g → P (asks_linktest g)
-  kept_linktest g at = kept.inner.waiting (record (record g { transactions = _ }) { link = _ }) _ (kept.link (record g { transactions = _ }) _ (λ is. is) (kept.inner.drawn g _ refl at))
+  kept_linktest g at = kept.inner.frame (record (draws g) { link = _ }) _ [] refl (kept.link (draws g) _ (λ is. is) (kept.inner.drawn g at))
 
   kept_due : (g : State) (d : Option LinkDue) → P g → P (all_done (dues_with g d) g)
   kept_due g (Some due.T7) at = kept.ended g at
@@ -439,15 +448,15 @@ module _ (Rest : Event → State → Type 0) (P : State → Type 0) (kept : Acti
   the_kept : (x o : Outcome) → KeptTo x → Some x ≡ Some o → KeptTo o
   the_kept x o at here = let same : x ≡ o = cc in subst KeptTo same at
 
-  kept_hosted : (g : State) (arrival : Arrival) (act : LinkAct) → P g → KeptTo (hosted g arrival act)
-  kept_hosted g arrival (link.Reply h) at = kept.inner.waiting g _ at
-  kept_hosted g arrival link.Data at = kept_act Rest P kept.inner g (header_of arrival) (item_of arrival) (verdict g arrival) at
-  kept_hosted g arrival link.Ended at = kept.ended g at
-  kept_hosted g arrival link.Nothing at = at
+  kept_hosted : (g : State) (arrival : Arrival) (act : LinkAct) → IsOfLink act → P g → KeptTo (hosted g arrival act)
+  kept_hosted g arrival (link.Reply h) other at = kept.inner.frame g h [] (other h refl) at
+  kept_hosted g arrival link.Data other at = kept_act Rest P kept.inner g (header_of arrival) (item_of arrival) (verdict g arrival) at
+  kept_hosted g arrival link.Ended other at = kept.ended g at
+  kept_hosted g arrival link.Nothing other at = at
 
-  kept_frame : (g : State) (frames : List (List ℕ)) (o : Outcome) → P g → steps.handed_out g frames ≡ Some o → KeptTo o
-  kept_frame g [] o at here = none_some o here
-  kept_frame g (frame ∷ frames) o at here = the_kept _ o (kept.inner.waiting g frames at) here
+  kept_frame : (g : State) (frames : List (List ℕ)) (o : Outcome) → g.waiting ≡ frames → P g → steps.handed_out g frames ≡ Some o → KeptTo o
+  kept_frame g [] o is at here = none_some o here
+  kept_frame g (frame ∷ frames) o is at here = the_kept _ o (kept.inner.handed g frame frames is at) here
 
   kept_command : (g : State) (number : ℕ) (command : Option Command) (o : Outcome) → P g → steps.command_out g number command ≡ Some o → KeptTo o
   kept_command g number None o at here = none_some o here
@@ -458,9 +467,9 @@ module _ (Rest : Event → State → Type 0) (P : State → Type 0) (kept : Acti
   kept_input before g (event.LinkDown session cause) o rest at here = went (is_session_up g session) _ _ _ (λ _ e. the_kept _ o (kept.ended g at) e) (λ _ e. the_kept _ o at e) here
   kept_input before g (event.Host session arrival) o rest at here =
       went (is_session_up g session) _ _ _
-      (λ _ e. the_kept _ o (kept_hosted (linked g (header_of arrival)) arrival (link_act (header_of arrival) g.link) (kept.link g _ (link_after-keeps (header_of arrival) g.moment g.link).selected at)) e)
+      (λ _ e. the_kept _ o (kept_hosted (linked g (header_of arrival)) arrival (link_act (header_of arrival) g.link) (link_replies (header_of arrival) g.link) (kept.link g _ (link_after-keeps (header_of arrival) g.moment g.link).selected at)) e)
       (λ _ e. the_kept _ o at e) here
-  kept_input before g (event.Take session) o rest at here = went (is_session_up g session) _ _ _ (λ _ e. kept_frame g g.waiting o at e) (λ _ e. the_kept _ o at e) here
+  kept_input before g (event.Take session) o rest at here = went (is_session_up g session) _ _ _ (λ _ e. kept_frame g g.waiting o refl at e) (λ _ e. the_kept _ o at e) here
   kept_input before g (event.Oper command) o rest at here = the_kept (operated command g) o (kept_operated command g rest at) here
   kept_input before g (event.Signal signal) o rest at here = the_kept _ o (kept_signalled Rest P kept.inner signal g rest at) here
   kept_input before g (event.Fetch m) o rest at here = kept_command g m.0 (unfetched (module_of m.0 g)) o at here

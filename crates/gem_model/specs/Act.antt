@@ -29,9 +29,9 @@ taken_as h d = fire_listed d.rows (replied h (function_of h + 1) (reply_text d.r
 abbrev pub taken : Header → HostMessage → State → State
 taken h m g = taken_as h (done g m)
 
--- the open note is answered, where the transaction was its own: by any message that closes it (this tool's profile, notes)
+-- the open note whose transaction this was is answered: by any message that closes it (this tool's profile, notes)
 abbrev pub note_answered : What → State → State
-note_answered (what.Note n) g = record g { line = notes.answered g.line }
+note_answered (what.Note n) g = record g { line = notes.answered n g.line }
 note_answered _ g = g
 
 -- the transaction that a message answers is closed, and its rows fire; without one the message is discarded

@@ -1,5 +1,5 @@
 -- A conversation with the tool: lines in, lines out.
-use Rattle.std.specs.Prelude.{ℕ, ◌+◌, false, List, [], ◌∷◌, codes, map}
+use Rattle.std.specs.Prelude.{ℕ, ◌+◌, Bool, false, true, List, [], ◌∷◌, codes, map}
 use Rattle.hsms_frame.specs.declared.frame.Header.{Header}
 use Rattle.hsms_frame.specs.declared.frame.Arrival.TheVariants as arrival
 use Rattle.tool_tasks.specs.Chambers.{chambers_to}
@@ -9,7 +9,10 @@ use Rattle.tool_events.specs.declared.config.Config.{Config}
 use Rattle.tool_events.specs.declared.config.CommStart.TheVariants as start
 use Rattle.tool_events.specs.declared.config.ControlStart.TheVariants as begin
 use Rattle.tool_events.specs.declared.entry.Entry.{Entry}
+use Rattle.note_line.specs.declared.fate.Fate.{Fate}
+use Rattle.note_line.specs.declared.fate.Told.{Told}
 use Rattle.gem_model.specs.State.{opening}
+use Rattle.gem_model.specs.Run.{after_all}
 use Rattle.gem_model.specs.Feed.{Stop, entry_of, feed_entries}
 use Rattle.gem_model.specs.Printed.{printed}
 
@@ -39,7 +42,22 @@ worked_config = record {
   start_moment = record { 0 = 0 };
   recipes = record { name = codes "R1"; route = chambers_to 2 ∷ [] } ∷ [];
   tcp_port = 5000;
+  window = 1;
 }
+
+-- the same of version 2, where two notes may be open at once and events are spooled, so many of them
+abbrev pub window_of_two : ℕ → Bool → Config
+window_of_two capacity overwrite = record worked_config {
+  version = 2;
+  window = 2;
+  spool_capacity = capacity;
+  spool_streams = record { five = false; six = true };
+  overwrite = overwrite;
+}
+
+-- what became of the notes that a text of lines makes, from number 1 on, under a configuration
+abbrev pub fates_under : Config → List ℕ → List Fate
+fates_under c text = map (λ (told : Told). told.fate) (after_all (opening c) (feed_entries c text).entries).line.told
 
 -- what the tool prints for a text of lines, under a configuration (this tool's profile, input and output lines)
 abbrev pub answers_under : Config → List ℕ → List ℕ

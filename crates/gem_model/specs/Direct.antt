@@ -9,6 +9,7 @@ use Rattle.gem_states.specs.declared.control.ControlTrigger.TheVariants as contr
 use Rattle.gem_states.specs.Triggers.{comm_rows, control_rows}
 use Rattle.gem_tables.specs.declared.firing.Firing.{Firing}
 use Rattle.note_line.specs.Table3.{is_direct}
+use Rattle.note_line.specs.Failing.{failing}
 use Rattle.message_model.specs.Acknowledge.{accepts}
 use Rattle.tool_events.specs.declared.event.OperCmd.{OperCmd}
 use Rattle.tool_events.specs.declared.event.OperCmd.TheVariants as oper
@@ -20,7 +21,7 @@ use Rattle.floor_model.specs.Signals.{at_module, lost_rows}
 use Rattle.control_job.specs.Commands.{command_answer}
 use Rattle.request_model.specs.Requests.{command_rows, control_command_rows}
 use Rattle.gem_model.specs.State.{State}
-use Rattle.gem_model.specs.Fire.{of_comm, of_control, of_line}
+use Rattle.gem_model.specs.Fire.{of_comm, of_control, of_failing}
 
 -- the rows of table 1 that a trigger fires
 abbrev pub by_comm : CommTrigger → List Firing
@@ -30,17 +31,22 @@ by_comm t = of_comm (comm_rows t)
 abbrev pub by_control : ControlTrigger → State → List Firing
 by_control t g = of_control (control_rows t g.switch_local)
 
--- the transaction of the open note fails: row 14 of table 3
-abbrev pub note_fails : List Firing
-note_fails = of_line (14 ∷ [])
+-- the transactions of these notes fail: row 14 of table 3 at each of them
+abbrev pub note_fails : ℕ → List Firing
+note_fails number = of_failing (number ∷ [])
+
+-- the transaction of each open note fails: that of the greatest number first
+abbrev pub notes_fail : State → List Firing
+notes_fail g = of_failing (failing g.line)
 
 -- the row of the tool's S1F1, which fails where it is open
 abbrev pub attempt_fails : State → List Firing
 attempt_fails g = if is_some (first_of what.Attempt g.transactions.opened) then by_control control.Failed g else []
 
--- the rows of every open transaction that fails: 2.3 where the tool's S1F1 was open, and then 3.14 for the open note
+-- the rows of every open transaction that fails: 2.3 where the tool's S1F1 was open, and then 3.14 for each open note, the greatest
+-- number first
 abbrev pub all_fail : State → List Firing
-all_fail g = attempt_fails g ++ note_fails
+all_fail g = attempt_fails g ++ notes_fail g
 
 -- the session ends
 abbrev pub session_end_rows : State → List Firing
@@ -80,7 +86,7 @@ answer_rows (what.Note n) function item g = []
 abbrev pub timeout_rows : What → State → List Firing
 timeout_rows what.Establish g = by_comm comm.Refused
 timeout_rows what.Attempt g = by_control control.Failed g
-timeout_rows (what.Note n) g = note_fails
+timeout_rows (what.Note n) g = note_fails n
 
 -- ---- what is listed
 

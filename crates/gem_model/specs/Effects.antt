@@ -84,5 +84,6 @@ asks_first (note ∷ notes) g = asks (stream_of_kind note.kind) (function_of_kin
 abbrev pub line_effect : ℕ → State → State
 line_effect row g = if row == 12 then asks_first g.line.spool.notes g else (if row == 13 then asks_first g.line.waiting g else g)
 
-abbrev pub fire_line : ℕ → State → State
-fire_line row g = record (line_effect row g) { line = row_effect (around g) row g.line }
+-- the row of a number fires, at the note of a number
+abbrev pub fire_line : ℕ → ℕ → State → State
+fire_line row note g = record (line_effect row g) { line = row_effect (around g) row note g.line }

@@ -32,7 +32,7 @@ fire_listed (f ∷ fs) g = fire_listed fs (if row_starts g f then advanced g f e
 abbrev pub fires : (State → List Firing) → State → State
 fires rows g = fire_listed (rows g) g
 
--- these rows of table 1, these of table 2, and these of table 3; each of these tables has one object
+-- these rows of table 1, these of table 2, and these of table 3, at the one object that these tables have
 abbrev pub of_comm : List ℕ → List Firing
 of_comm rows = map (firing 1 0) rows
 
@@ -41,3 +41,7 @@ of_control rows = map (firing 2 0) rows
 
 abbrev pub of_line : List ℕ → List Firing
 of_line rows = map (firing 3 0) rows
+
+-- row 14 of table 3 at each of these notes
+abbrev pub of_failing : List ℕ → List Firing
+of_failing numbers = map (λ number. firing 3 number 14) numbers

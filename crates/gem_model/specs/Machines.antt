@@ -50,14 +50,15 @@ control_machine = record {
   name = nameless;
 }
 
--- table 3, the line of notes and the spool
+-- Table 3, the line of notes and the spool. A row fires by itself at the one object 0; row 14, which an input fires, at the note of a
+-- number.
 abbrev pub line_machine : Machine State
 line_machine = record {
   table = 3;
   objects = only;
-  starts = λ row object g. line_starts (around g) row g.line;
+  starts = λ row object g. line_starts (around g) row object g.line;
   ready = λ object g. line.least (around g) g.line;
-  fired = λ row object g. fire_line row g;
+  fired = λ row object g. fire_line row object g;
   creates = creates_none;
   name = nameless;
 }

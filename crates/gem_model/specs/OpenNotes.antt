@@ -1,17 +1,22 @@
 -- Which notes are open, and which frames send them (this tool's profile, notes).
-use Rattle.std.specs.Prelude.{ℕ, ◌+◌, ◌==◌, ◌≡◌, ◌≤◌, Bool, true, false, ◌&&◌, ◌||◌, List, [], ◌∷◌, ◌++◌, Option, Some, option_map}
-use Rattle.std.specs.Option.{option_to_list}
+use Rattle.std.specs.Prelude.{ℕ, ◌+◌, ◌==◌, ◌≡◌, ◌≤◌, Bool, true, false, ◌&&◌, ◌||◌, if◌then◌else◌, List, [], ◌∷◌, ◌++◌, Option, None, Some}
 use Rattle.hsms_frame.specs.declared.frame.Header.{Header}
 use Rattle.hsms_frame.specs.Spelling.{message_bytes}
 use Rattle.spool.specs.declared.note.Note.{Note}
+use Rattle.gem_tables.specs.declared.firing.Firing.{Firing}
 use Rattle.note_line.specs.Line.{Line}
-use Rattle.note_line.specs.Order.{Pairwise}
+use Rattle.note_line.specs.Table3.{sends}
+use Rattle.note_line.specs.Failing.{numbers}
+use Rattle.note_line.specs.Order.{Pairwise, NotBelow, Between}
 use Rattle.tool_events.specs.declared.entry.Entry.{Entry}
 use Rattle.transactions.specs.declared.transaction.Open.{Open}
 use Rattle.transactions.specs.declared.transaction.What.{What}
 use Rattle.transactions.specs.declared.transaction.What.TheVariants as what
 use Rattle.transactions.specs.SystemBytes.{drawn}
-use Rattle.gem_model.specs.State.{State}
+use Rattle.gem_model.specs.State.{State, raised}
+use Rattle.gem_model.specs.Fire.{fire}
+use Rattle.gem_model.specs.Settle.{settling}
+use Rattle.gem_model.specs.Step.{Outcome, acts}
 use Rattle.gem_model.specs.Sending.{data_frame}
 use Rattle.gem_model.specs.Effects.{stream_of_kind, function_of_kind}
 use Rattle.gem_model.specs.Run.{entry_after}
@@ -27,13 +32,9 @@ abbrev pub note_numbers : List Open → List ℕ
 note_numbers [] = []
 note_numbers (one ∷ others) = note_number one.what ++ note_numbers others
 
--- the number of a note, where there is one
-abbrev pub number_of : Option Note → List ℕ
-number_of note = option_to_list (option_map (λ (n : Note). n.number) note)
-
--- the number of the open note of a line, where one is open
-abbrev pub open_number : Line → List ℕ
-open_number l = number_of l.opened
+-- the numbers of the open notes of a line, in the order in which they were sent
+abbrev pub open_numbers : Line → List ℕ
+open_numbers l = numbers l.opened
 
 -- the frame by which a note is sent in this state: S6F11 or S5F1 with the text of the note, under the system bytes that are
 -- next (SEMI E5, S6F11 and S5F1)
@@ -53,25 +54,46 @@ pub data Carries (P : Note → Type 0) (frame : List ℕ) : Type 0 where
       → frame ≡ data_frame device true (stream_of_kind note.kind) (function_of_kind note.kind) system note.text → P note
       → Carries P frame
 
--- from the first state to the second this note is sent: it is open, and its frame waits for the writer behind the others
+-- from the first state to the second this note is sent: it is open behind those that were, and its frame waits for the writer behind
+-- the others
 pub record IsSent (note : Note) (g h : State) : Type 0 where
-  pub opened : h.line.opened ≡ Some note
+  pub opened : h.line.opened ≡ g.line.opened ++ note ∷ []
   pub frame : h.waiting ≡ g.waiting ++ note_frame note g ∷ []
 
 -- ---- along a history
 
--- the notes that are open behind each of these entries, where one is: a note is sent in the step in which it becomes open
+-- the notes that are open behind each of these entries
 abbrev pub open_behind : State → List Entry → List Note
 open_behind g [] = []
-open_behind g (entry ∷ entries) = option_to_list (entry_after g entry).line.opened ++ open_behind (entry_after g entry) entries
+open_behind g (entry ∷ entries) = (entry_after g entry).line.opened ++ open_behind (entry_after g entry) entries
 
--- the second note is not below the first, where they are of one kind
-abbrev pub NotBelow : Note → Note → Type 0
-NotBelow earlier later = earlier.kind ≡ later.kind → earlier.number ≤ later.number
+-- the note that a firing sends, if it sends one
+abbrev pub sent_by : State → Firing → List Note
+sent_by g f = if f.row.table == 3 then sends f.row.row g.line else []
 
--- sendings of one kind never go back to a lower number (this tool's profile, notes)
+-- the notes that these firings send, one after another
+abbrev pub sent_along : State → List Firing → List Note
+sent_along g [] = []
+sent_along g (f ∷ fs) = sent_by g f ++ sent_along (fire g f) fs
+
+-- the notes that the step of an entry sends, while the tool settles behind its event
+abbrev pub sent_in : Option Outcome → List Note
+sent_in None = []
+sent_in (Some o) = sent_along o.after (settling o.after)
+
+-- the sendings of these entries, in order; a note that is sent again stands again
+abbrev pub sendings : State → List Entry → List Note
+sendings g [] = []
+sendings g (entry ∷ entries) = sent_in (acts g.moment (raised g entry.at.0) entry.event) ++ sendings (entry_after g entry) entries
+
+-- each note that these firings send is the least of its kind among those that are spooled or wait where it is sent
+abbrev pub AreLeast : State → List Firing → Type 0
+AreLeast g [] = Unit {0}
+AreLeast g (f ∷ fs) = Between NotBelow (sent_by g f) (g.line.spool.notes ++ g.line.waiting) × AreLeast (fire g f) fs
+
+-- sendings of one kind never go back to a lower number, where one note may be open at once (this tool's profile, notes)
 abbrev pub NeverBack : State → List Entry → Type 0
-NeverBack g entries = Pairwise NotBelow (open_behind g entries)
+NeverBack g entries = Pairwise NotBelow (sendings g entries)
 
 -- a note has another number than this
 abbrev pub IsOther : ℕ → Note → Type 0

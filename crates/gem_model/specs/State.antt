@@ -117,7 +117,7 @@ opening c = record {
   constants = first_constants c;
   reports = no_reports c.ports c.chambers;
   alarms = no_alarms c.ports c.chambers;
-  line = notes.opening c.spool_capacity (first_kinds c.spool_streams);
+  line = notes.opening c.spool_capacity c.window (first_kinds c.spool_streams);
   floor = floors.opening c.ports c.chambers c.recipes;
   waiting = [];
 }

@@ -5,6 +5,8 @@
 
 ghost use Rattle.std.specs.Prelude.{◌≡◌, true, false, [], ◌∷◌, map, codes};
 ghost use Rattle.spool.specs.declared.note.Kind.TheVariants.{Event};
+ghost use Rattle.note_line.specs.declared.fate.Fate.TheVariants.{Spooled, Dropped};
+ghost use Rattle.note_line.specs.declared.fate.DropCause.TheVariants.{Full};
 ghost use Rattle.tool_events.specs.declared.event.Event.TheVariants.{LinkUp, Oper, Tick};
 ghost use Rattle.tool_events.specs.declared.event.OperCmd.TheVariants.{Local, Offline, Online};
 ghost use Rattle.tool_events.specs.declared.config.CommStart.TheVariants.{Enabled};
@@ -13,7 +15,7 @@ ghost use Rattle.gem_model.specs.State.{opening};
 ghost use Rattle.gem_model.specs.Reported.{told_as, reported_in};
 ghost use Rattle.gem_model.specs.Sizes.{is_full};
 ghost use Rattle.gem_model.specs.Feed.{AllRead, OutsideGrammar, QuitAt};
-ghost use Rattle.gem_model.specs.Conversation.{worked_config, answers_under, answer_to, stop_of, answer_to_events, posted, message_of, too_long_of, take_one, select_request, request};
+ghost use Rattle.gem_model.specs.Conversation.{worked_config, window_of_two, fates_under, answers_under, answer_to, stop_of, answer_to_events, posted, message_of, too_long_of, take_one, select_request, request};
 
 /// Where nothing comes, nothing is printed.
 pub fn no_lines()
@@ -331,4 +333,22 @@ pub fn removed_at_an_empty_port_sets_its_alarm_and_all_else_stays()
 pub fn a_port_that_gets_another_carrier_forgets_the_one_that_was_bound()
     ensures { answer_to (codes "L+\nH 0000000AFFFF0000000100000001\nH 00000024000083110000000000020105B10400000001410442696E6441054341523031A501010100\nS placed 1 CAR02 3333333333333333333333333\nH 00000030000081030000000000030106B1040000001FB10400000020B10400000029B1040000002AB10400000033B10400000034\nH 00000032000083110000000000040105B10400000001411250726F63656564576974684361727269657241054341523031A501000100\nH 00000032000083110000000000050105B10400000001411250726F63656564576974684361727269657241054341523032A501000100\nH 00000033000083110000000000060105B104000000014113436172726965724E6F74696669636174696F6E41054341523031A501000100\n")
         ≡ codes "+ 1\n> 0000000AFFFF0000000200000001\n> 00000011000003120000000000020102A501000100\n> 00000021000001040000000000030106A50101A50102A50100A50100410543415230324100\n> 00000011000003120000000000040102A501030100\n> 00000011000003120000000000050102A501000100\n> 00000011000003120000000000060102A501000100\n" }
+{}
+
+/// Where two notes may be open at once, two events are sent before either is answered. Both are then not answered: T3 is told of each,
+/// and they are spooled. The host asks for them, and they are sent again in the order of their numbers.
+pub fn two_events_are_open_at_once()
+    ensures sent { answers_under (window_of_two 1000 false) (codes "L+\nH 0000000AFFFF0000000100000001\nH 0000001D0000822500000000000B01022501010102B104000000D2B104000000D3\nO local\nO remote\n")
+        ≡ codes "+ 1\n> 0000000AFFFF0000000200000001\n> 0000000D0000022600000000000B210100\n= ok\n> 0000001E0000860B0000000000010103A1080000000000000001B104000000D30100\n= ok\n> 0000001E0000860B0000000000020103A1080000000000000002B104000000D20100\n" }
+    ensures not_answered { answers_under (window_of_two 1000 false) (codes "L+\nH 0000000AFFFF0000000100000001\nH 0000001D0000822500000000000B01022501010102B104000000D2B104000000D3\nO local\nO remote\nT 4500\n")
+        ≡ codes "+ 1\n> 0000000AFFFF0000000200000001\n> 0000000D0000022600000000000B210100\n= ok\n> 0000001E0000860B0000000000010103A1080000000000000001B104000000D30100\n= ok\n> 0000001E0000860B0000000000020103A1080000000000000002B104000000D20100\n> 0000001600000909000000000003210A0000860B000000000001\n> 0000001600000909000000000004210A0000860B000000000002\n" }
+    ensures spooled { fates_under (window_of_two 1000 false) (codes "L+\nH 0000000AFFFF0000000100000001\nH 0000001D0000822500000000000B01022501010102B104000000D2B104000000D3\nO local\nO remote\nT 4500\n") ≡ Spooled ∷ Spooled ∷ [] }
+    ensures sent_again { answers_under (window_of_two 1000 false) (codes "L+\nH 0000000AFFFF0000000100000001\nH 0000001D0000822500000000000B01022501010102B104000000D2B104000000D3\nO local\nO remote\nT 4500\nH 0000000D0000861700000000000CA50100\n")
+        ≡ codes "+ 1\n> 0000000AFFFF0000000200000001\n> 0000000D0000022600000000000B210100\n= ok\n> 0000001E0000860B0000000000010103A1080000000000000001B104000000D30100\n= ok\n> 0000001E0000860B0000000000020103A1080000000000000002B104000000D20100\n> 0000001600000909000000000003210A0000860B000000000001\n> 0000001600000909000000000004210A0000860B000000000002\n> 0000000D0000061800000000000C210100\n> 0000001E0000860B0000000000050103A1080000000000000001B104000000D30100\n> 0000001E0000860B0000000000060103A1080000000000000002B104000000D20100\n" }
+{}
+
+/// The same into a spool of one: where it is overwritten the note of the least number is lost, and else that of the greatest.
+pub fn a_spool_of_one_loses_by_number()
+    ensures overwritten { fates_under (window_of_two 1 true) (codes "L+\nH 0000000AFFFF0000000100000001\nH 0000001D0000822500000000000B01022501010102B104000000D2B104000000D3\nO local\nO remote\nT 4500\n") ≡ Dropped Full ∷ Spooled ∷ [] }
+    ensures kept { fates_under (window_of_two 1 false) (codes "L+\nH 0000000AFFFF0000000100000001\nH 0000001D0000822500000000000B01022501010102B104000000D2B104000000D3\nO local\nO remote\nT 4500\n") ≡ Spooled ∷ Dropped Full ∷ [] }
 {}

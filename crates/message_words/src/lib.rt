@@ -15,6 +15,7 @@ mod events;
 mod frame;
 mod header;
 mod listener;
+mod notes;
 mod remarks;
 mod reports;
 mod settings;

@@ -7,6 +7,7 @@ use crate::control::say_control;
 use crate::events::add_event;
 use crate::frame::Body;
 use crate::header::{header_words, is_data};
+use crate::notes::Notes;
 use crate::remarks::Remarks;
 use crate::reports::{Changes, Reports, changes_of, say_links, say_values};
 use crate::settings::{
@@ -26,22 +27,15 @@ pub enum Sender {
     Tool,
 }
 
-// The note that was sent last: its number, and its system bytes.
-#[derive(Clone, Copy)]
-struct Note {
-    number: u64,
-    system: u32,
-}
-
 /// Hears the frames of a conversation in their order, and makes remarks on each. It remembers which reports the host defined, what it
-/// asked, and which note was sent last, since the messages behind speak of these by numbers alone.
+/// asked, and which notes were sent, since the messages behind speak of these by numbers alone.
 #[derive(Drop)]
 pub struct Listener {
     device: u16,
     plant: Plant,
     reports: Reports,
     requests: Requests,
-    note: Option<Note>,
+    notes: Notes,
 }
 
 // The stream and the function of a data message.
@@ -132,7 +126,7 @@ impl Listener {
             plant: Plant { ports, chambers },
             reports: Reports::new(alloc),
             requests: Requests::new(alloc),
-            note: None,
+            notes: Notes::new(alloc),
         }
     }
 
@@ -227,17 +221,17 @@ impl Listener {
 
     // The host answers a note.
     fn say_answered(
-        &self,
+        &mut self,
         alloc: Global,
         header: Header,
         out: &mut Remarks,
     ) -> Result<(), AllocError> {
-        match self.note {
-            Some(Note { number, system }) if system == header.system => {
+        match self.notes.answer(header.system) {
+            Some(number) => {
                 let words = format!(in alloc; "answers note {number}")?;
                 out.say(words.as_str())
             }
-            _ => Ok(()),
+            None => Ok(()),
         }
     }
 
@@ -311,8 +305,7 @@ impl Listener {
         if number == 0 {
             return Ok(());
         }
-        let is_again = matches!(self.note, Some(last) if number <= last.number);
-        self.note = Some(Note { number, system });
+        let is_again = self.notes.send(number, system)?;
         let again = if is_again { ", sent again" } else { "" };
         let words = format!(in alloc; "note {number}{again}")?;
         out.say(words.as_str())

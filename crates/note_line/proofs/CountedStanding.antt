@@ -1,15 +1,14 @@
 -- The notes that were made are those that were answered, those that were dropped, and those that haven't ended.
-use Rattle.std.proofs.Common.{◌≡◌, ℕ, suc, ◌+◌, ◌<◌, ◌≤◌, ◌==◌, Bool, true, false, not, if◌then◌else◌, List, [], ◌∷◌, ◌++◌, length, Option, Some, None, is_some, option_map, slice_get, refl, ◌∙◌, ap, subst, arith}
+use Rattle.std.proofs.Common.{◌≡◌, ℕ, suc, ◌+◌, ◌<◌, ◌≤◌, ◌==◌, Bool, true, false, not, if◌then◌else◌, List, [], ◌∷◌, ◌++◌, length, option_map, slice_get, refl, ◌∙◌, ap, subst, arith}
 use Rattle.std.specs.List.{count_by, filter, AllByRecursion}
-use Rattle.std.specs.Option.{option_to_list}
 use Rattle.std.proofs.lemmas.Bool.Decides.{nat_tests}
 use Rattle.std.proofs.lemmas.List.Sums.{sum_by-cons}
 use Rattle.spool.specs.declared.note.Note.{Note}
 use Rattle.note_line.specs.declared.fate.Told.{Told}
 use Rattle.note_line.specs.declared.fate.Fate.{Fate}
 use Rattle.note_line.specs.declared.fate.Fate.TheVariants.{Answered, Open, Waiting, Spooled, Dropped}
-use Rattle.note_line.specs.Line.{Line}
-use Rattle.note_line.specs.Fates.{IsTold, is_waiting, is_spooled, is_open, is_number, passes, has_fate, one_if}
+use Rattle.note_line.specs.Line.{Line, is_number}
+use Rattle.note_line.specs.Fates.{IsTold, is_waiting, is_spooled, is_open, passes, has_fate, one_if}
 use Rattle.note_line.specs.Counts.{is_answered, is_dropped, fates_count, answered_count, dropped_count, standing_count, IsCounted}
 
 -- ---- each note has one fate
@@ -117,17 +116,13 @@ stand l test notes all counts =
     as_many test 0 l.told notes (told_within l notes all)
     (λ place. subst (λ (n : ℕ). count_by (is_number (suc n)) notes ≡ one_if (has_fate test (suc place) l.told)) (let same : place ≡ 0 + place = omega arith in same) (counts (suc place)))
 
-opened_length : (one : Option Note) → length (option_to_list one) ≡ one_if (is_some one)
-opened_length None = refl
-opened_length (Some note) = refl
-
 -- what was made, but for what was answered and what hasn't ended, was dropped
 pub all_counted : (l : Line) (n : ℕ) → IsCounted l n → length l.told ≡ n + dropped_count l.told + standing_count l
 all_counted l n is =
     let told = is.valid.fated.told in
-    let opened = stand l is_open (option_to_list l.opened) (first_part (IsTold l) (option_to_list l.opened) (l.spool.notes ++ l.waiting) told) is.valid.fated.opened in
-    let behind = second_part (IsTold l) (option_to_list l.opened) (l.spool.notes ++ l.waiting) told in
+    let opened = stand l is_open l.opened (first_part (IsTold l) l.opened (l.spool.notes ++ l.waiting) told) is.valid.fated.opened in
+    let behind = second_part (IsTold l) l.opened (l.spool.notes ++ l.waiting) told in
     let spooled = stand l is_spooled l.spool.notes (first_part (IsTold l) l.spool.notes l.waiting behind) is.valid.fated.spooled in
     let waiting = stand l is_waiting l.waiting (second_part (IsTold l) l.spool.notes l.waiting behind) is.valid.fated.waiting in
     let count = is.count in
-    omega (arith, all_fates l.told, opened, opened_length l.opened, spooled, waiting, count)
+    omega (arith, all_fates l.told, opened, spooled, waiting, count)

@@ -1,5 +1,5 @@
 -- No row answers a note, and an answer answers one.
-use Rattle.std.proofs.Common.{◌≡◌, ℕ, zero, suc, ◌+◌, Bool, true, false, if◌then◌else◌, List, [], ◌∷◌, Option, Some, None, is_some, option_map, slice_get, Result, Ok, Err, IfOk, IfErr, refl, sym, ◌∙◌, ap, subst, arith}
+use Rattle.std.proofs.Common.{◌≡◌, ℕ, zero, suc, ◌+◌, Bool, true, false, if◌then◌else◌, List, [], ◌∷◌, Option, Some, None, find, is_some, option_map, slice_get, Result, Ok, Err, IfOk, IfErr, refl, sym, ◌∙◌, ap, subst, arith}
 use Rattle.std.proofs.lemmas.List.Sums.{sum_by_push, sum_by-cons}
 use Rattle.gem_tables.specs.Table.{update_at}
 use Rattle.spool.specs.declared.note.Note.{Note}
@@ -11,11 +11,12 @@ use Rattle.note_line.specs.declared.fate.Told.{Told}
 use Rattle.note_line.specs.declared.fate.Fate.{Fate}
 use Rattle.note_line.specs.declared.fate.Fate.TheVariants.{Answered, Open, Waiting, Spooled, Dropped}
 use Rattle.note_line.specs.declared.fate.DropCause.TheVariants.{NoSpool, Full, Purged}
-use Rattle.note_line.specs.Line.{Line, opening, fate_of, with_fate, fated, noted, with_head, with_open, restated, lost_is_dropped, spooled, returned, sent, spool_head, drop_head, open_head, open_oldest_of, open_oldest, purge_oldest_of, purge_oldest, failed, fail_open, answered, in_kind, with_kinds, begun}
-use Rattle.note_line.specs.Table3.{least, head_in_kind}
+use Rattle.note_line.specs.Line.{Line, opening, is_number, without, fate_of, with_fate, fated, noted, with_head, with_one, restated, lost_is_dropped, spooled, returned, sent, spool_head, drop_head, open_head, open_oldest_of, open_oldest, purge_oldest_of, purge_oldest, failed, fail_open, answered, in_kind, with_kinds, begun}
+use Rattle.note_line.specs.Table3.{least, head_in_kind, has_open, may_open}
 use Rattle.note_line.specs.Fates.{passes, one_if}
 use Rattle.note_line.proofs.Rows.{Keeps, keeps, opening-valid, open_is_open, noted-keeps, answered-keeps, kinds-keeps, drop-goes, spool-goes, oldest-goes, purge-goes, fail-goes, restated-goes, begun-goes}
 use Rattle.note_line.proofs.Keeps.{least-keeps}
+use Rattle.note_line.proofs.Places.{found-between}
 use Rattle.note_line.specs.Counts.{is_answered, answered_count, IsCounted}
 
 -- ---- counts of lists
@@ -106,15 +107,15 @@ failed_none a note l = of (in_kind l.kinds note) where
   of true = returned_none a.overwrites note l
   of false = fated_none (Dropped NoSpool) note l refl
 
--- ---- the first of those that wait, the oldest spooled one, and the open one
+-- ---- the first of those that wait, the oldest spooled one, and an open one
 
 head_none : (act : Note → Line → Line) → ((note : Note) (h : Line) → NoneAnswered h (act note h)) → (notes : List Note) (l : Line) → NoneAnswered l (with_head act notes l)
 head_none act acts [] l = λ number e. e
 head_none act acts (note ∷ notes) l = acts note (record l { waiting = notes })
 
-open_none : (act : Note → Line → Line) → ((note : Note) (h : Line) → NoneAnswered h (act note h)) → (one : Option Note) (l : Line) → NoneAnswered l (with_open act one l)
-open_none act acts None l = λ number e. e
-open_none act acts (Some note) l = acts note (record l { opened = None })
+one_none : (act : Note → Line → Line) → ((note : Note) (h : Line) → NoneAnswered h (act note h)) → (number : ℕ) (one : Option Note) (l : Line) → NoneAnswered l (with_one act number one l)
+one_none act acts number None l = λ other e. e
+one_none act acts number (Some note) l = acts note (record l { opened = without number l.opened })
 
 sent_none : (note : Note) (l : Line) → NoneAnswered l (sent note l)
 sent_none note l = with_none note.number Open l.told refl
@@ -129,8 +130,8 @@ purged_none (note ∷ notes) l = with_none note.number (Dropped Purged) l.told r
 
 -- ---- each change
 
-pub counted_opening : (capacity : ℕ) (kinds : SpooledKinds) → IsCounted (opening capacity kinds) 0
-counted_opening capacity kinds = record { valid = opening-valid capacity kinds; count = refl }
+pub counted_opening : (capacity window : ℕ) (kinds : SpooledKinds) → IsCounted (opening capacity window kinds) 0
+counted_opening capacity window kinds = record { valid = opening-valid capacity window kinds; count = refl }
 
 pub counted_purge : (l : Line) (n : ℕ) → IsCounted l n → IsCounted (purge_oldest l) n
 counted_purge l n is = counted_on l (purge_oldest l) n (keeps _ _ (purge-goes l is.valid)) (purged_none l.spool.notes l) is
@@ -141,14 +142,14 @@ counted_spool a l n in_kind is = counted_on l (spool_head a l) n (keeps _ _ (spo
 pub counted_drop : (l : Line) (n : ℕ) → IsCounted l n → IsCounted (drop_head l) n
 counted_drop l n is = counted_on l (drop_head l) n (keeps _ _ (drop-goes l is.valid)) (head_none (fated (Dropped NoSpool)) (λ note h. fated_none (Dropped NoSpool) note h refl) l.waiting l) is
 
-pub counted_oldest : (l : Line) (n : ℕ) → l.opened ≡ None → IsCounted l n → IsCounted (open_oldest l) n
-counted_oldest l n none is = counted_on l (open_oldest l) n (keeps _ _ (oldest-goes l none is.valid)) (oldest_none l.spool.notes l) is
+pub counted_oldest : (l : Line) (n : ℕ) → may_open l ≡ true → IsCounted l n → IsCounted (open_oldest l) n
+counted_oldest l n few is = counted_on l (open_oldest l) n (keeps _ _ (oldest-goes l few is.valid)) (oldest_none l.spool.notes l) is
 
 pub counted_head : (a : Around) (l : Line) (n : ℕ) → least a l ≡ Some 13 → IsCounted l n → IsCounted (open_head l) n
 counted_head a l n ready is = counted_on l (open_head l) n (least-keeps a l 13 ready is.valid) (head_none sent sent_none l.waiting l) is
 
-pub counted_fail : (a : Around) (l : Line) (n : ℕ) → IsCounted l n → IsCounted (fail_open a l) n
-counted_fail a l n is = counted_on l (fail_open a l) n (keeps _ _ (fail-goes a l is.valid)) (open_none (failed a) (failed_none a) l.opened l) is
+pub counted_fail : (a : Around) (number : ℕ) (l : Line) (n : ℕ) → IsCounted l n → IsCounted (fail_open a number l) n
+counted_fail a number l n is = counted_on l (fail_open a number l) n (keeps _ _ (fail-goes a number l is.valid)) (one_none (failed a) (failed_none a) number (find (is_number number) l.opened) l) is
 
 pub counted_restated : (row : ℕ) (l : Line) (n : ℕ) → IsCounted l n → IsCounted (restated row l) n
 counted_restated row l n is = counted_on l (restated row l) n (keeps _ _ (restated-goes row l is.valid)) (λ number e. e) is
@@ -189,11 +190,19 @@ with_more : (number : ℕ) (told : List Told) → fate_of number told ≡ Some O
 with_more zero told e = absurd (cc)
 with_more (suc place) told e = one_more place told e
 
-pub counted_answer : (l : Line) (n : ℕ) → is_some l.opened ≡ true → IsCounted l n → IsCounted (answered l) (n + 1)
-counted_answer l n some is = record { valid = (answered-keeps l is.valid).valid; count = of l.opened refl some } where
-  of : (one : Option Note) → l.opened ≡ one → is_some one ≡ true → n + 1 ≡ answered_count (with_open (fated Answered) one l).told
+pub counted_answer : (number : ℕ) (l : Line) (n : ℕ) → has_open number l ≡ true → IsCounted l n → IsCounted (answered number l) (n + 1)
+counted_answer number l n some is = record { valid = (answered-keeps number l is.valid).valid; count = of (find (is_number number) l.opened) refl some } where
+  of : (one : Option Note) → find (is_number number) l.opened ≡ one → is_some one ≡ true → n + 1 ≡ answered_count (with_one (fated Answered) number one l).told
   of None e none = absurd (cc)
   of (Some note) e here =
-      let more = with_more note.number l.told (open_is_open l note e is.valid) in
+      let at = found-between number l.opened note e in
+      let more = with_more note.number l.told (open_is_open l at.before at.behind note at.whole is.valid) in
       let count = is.count in
       omega (arith, more, count)
+
+-- where the note of a number isn't open, nothing is answered
+pub none_answered : (number : ℕ) (l : Line) → has_open number l ≡ false → answered number l ≡ l
+none_answered number l none = of (find (is_number number) l.opened) none where
+  of : (one : Option Note) → is_some one ≡ false → with_one (fated Answered) number one l ≡ l
+  of None e = refl
+  of (Some note) e = absurd (cc)

@@ -91,7 +91,7 @@ plus_none n m h = omega arith
 
 -- what is left, with the note that may tell of the row
 abbrev RowFalls : Around → Line → Row → Type 0
-RowFalls a l r = r.is_automatic ≡ true → r.when a l ≡ true → left (r.effect a l) + told_weight r.number < left l
+RowFalls a l r = r.is_automatic ≡ true → r.when a 0 l ≡ true → left (r.effect a 0 l) + told_weight r.number < left l
 
 activated : (l : Line) → (is_inactive l.spool.load && has_note l.spool) ≡ true → left (restated 1 l) + 6 < left l
 activated l w =
@@ -198,11 +198,11 @@ rows_fall a l = (
 )
 
 -- what is left falls, also where a note tells of the row
-pub least-falls : (a : Around) (l : Line) (number : ℕ) → least a l ≡ Some number → left (row_effect a number l) + told_weight number < left l
+pub least-falls : (a : Around) (l : Line) (number : ℕ) → least a l ≡ Some number → left (row_effect a number 0 l) + told_weight number < left l
 least-falls a l number e =
     let least = least_is (RowFalls a l) a l number (rows_fall a l) e in
-    let falls : left (least.row.effect a l) + told_weight number < left l = subst (λ n. left (least.row.effect a l) + told_weight n < left l) least.its_number (least.gives least.is_automatic least.when) in
-    subst (λ one. left (effect_of one a l) + told_weight number < left l) (sym least.is) falls
+    let falls : left (least.row.effect a 0 l) + told_weight number < left l = subst (λ n. left (least.row.effect a 0 l) + told_weight n < left l) least.its_number (least.gives least.is_automatic least.when) in
+    subst (λ one. left (effect_of one a 0 l) + told_weight number < left l) (sym least.is) falls
 
 -- ---- what leaves it as it is, and what adds to it
 

@@ -1,5 +1,7 @@
 pub mod Lists
 pub mod Numbers
+pub mod Places
+pub mod Ordering
 pub mod Moves
 pub mod Rows
 pub mod Keeps
@@ -10,6 +12,9 @@ pub mod Standing
 pub mod Short
 pub mod Opens
 pub mod Stays
+mod Finding
+pub mod Failing
 pub mod Sendings
+pub mod LeastSending
 mod Counting
 mod CountedStanding

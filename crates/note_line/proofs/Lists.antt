@@ -1,5 +1,5 @@
--- What is true of the elements of a list, where one leaves it, goes to its front, or comes to its rear.
-use Rattle.std.proofs.Common.{◌≡◌, suc, ◌-◌, Bool, true, false, List, [], ◌∷◌, ◌++◌, length, drop, take, Option, Some, None, arith}
+-- What is true of the elements of a list, where one leaves it, goes to another place, or comes to its rear.
+use Rattle.std.proofs.Common.{◌≡◌, suc, ◌-◌, Bool, true, false, List, [], ◌∷◌, ◌++◌, length, drop, take, Option, Some, None, refl, ap, arith}
 use Rattle.std.specs.Prelude.{ℕ, nat_le, slice_get, if◌then◌else◌}
 use Rattle.std.specs.List.{AllByRecursion}
 use Rattle.spool.specs.Full.{fitted, lost}
@@ -30,22 +30,52 @@ module _ {X : Type 0} where
   all_without P [] b x p = p.1
   all_without P (y ∷ a) b x p = (p.0, all_without P a b x p.1)
 
-  -- one goes to the front
-  pub all_passed : (P : X → Type 0) (a b : List X) (x : X) → AllByRecursion P (a ++ x ∷ b) → AllByRecursion P (x ∷ (a ++ b))
-  all_passed P a b x p = ((all_second P a (x ∷ b) p).0, all_without P a b x p)
+  -- the one that left
+  pub the_one : (P : X → Type 0) (a b : List X) (x : X) → AllByRecursion P (a ++ x ∷ b) → P x
+  the_one P a b x p = (all_second P a (x ∷ b) p).0
+
+  -- one comes between others
+  pub all_with : (P : X → Type 0) (a b : List X) (x : X) → P x → AllByRecursion P (a ++ b) → AllByRecursion P (a ++ x ∷ b)
+  all_with P [] b x here p = (here, p)
+  all_with P (y ∷ a) b x here p = (p.0, all_with P a b x here p.1)
+
+  -- what follows of two facts of each element
+  pub all_both : (P Q R : X → Type 0) → ((x : X) → P x → Q x → R x) → (a : List X) → AllByRecursion P a → AllByRecursion Q a → AllByRecursion R a
+  all_both P Q R f [] p q = tt
+  all_both P Q R f (y ∷ a) p q = (f y p.0 q.0, all_both P Q R f a p.1 q.1)
+
+  -- of no elements all is true
+  pub all_none : (P : X → Type 0) (a : List X) → length a ≡ 0 → AllByRecursion P a
+  all_none P [] e = tt
+  all_none P (y ∷ a) e = absurd (omega (arith, e))
+
+  -- one more
+  pub longer : (a b : List X) (x : X) → length (a ++ x ∷ b) ≡ suc (length (a ++ b))
+  longer [] b x = refl
+  longer (y ∷ a) b x = ap suc (longer a b x)
 
   -- where one leaves, the others stand in order
   pub pairs_without : (R : X → X → Type 0) (a b : List X) (x : X) → Pairwise R (a ++ x ∷ b) → Pairwise R (a ++ b)
   pairs_without R [] b x p = p.1
   pairs_without R (y ∷ a) b x p = (all_without (R y) a b x p.0, pairs_without R a b x p.1)
 
-  after_one : (R : X → X → Type 0) (a b : List X) (x : X) → Pairwise R (a ++ x ∷ b) → AllByRecursion (R x) b
-  after_one R [] b x p = p.0
-  after_one R (y ∷ a) b x p = after_one R a b x p.1
+  -- the first part of those that stand in order, the second part, and each of the first before each of the second
+  pub pairs_first : (R : X → X → Type 0) (a b : List X) → Pairwise R (a ++ b) → Pairwise R a
+  pairs_first R [] b p = tt
+  pairs_first R (y ∷ a) b p = (all_first (R y) a b p.0, pairs_first R a b p.1)
 
-  -- where one goes to the front, past such that it may stand before, all stand in order
-  pub pairs_passed : (R : X → X → Type 0) (a b : List X) (x : X) → AllByRecursion (R x) a → Pairwise R (a ++ x ∷ b) → Pairwise R (x ∷ (a ++ b))
-  pairs_passed R a b x free p = (all_joined (R x) a b free (after_one R a b x p), pairs_without R a b x p)
+  pub pairs_second : (R : X → X → Type 0) (a b : List X) → Pairwise R (a ++ b) → Pairwise R b
+  pairs_second R [] b p = p
+  pairs_second R (y ∷ a) b p = pairs_second R a b p.1
+
+  pub pairs_between : (R : X → X → Type 0) (a b : List X) → Pairwise R (a ++ b) → AllByRecursion (λ x. AllByRecursion (R x) b) a
+  pairs_between R [] b p = tt
+  pairs_between R (y ∷ a) b p = (all_second (R y) a b p.0, pairs_between R a b p.1)
+
+  -- and from these
+  pub pairs_joined : (R : X → X → Type 0) (a b : List X) → Pairwise R a → Pairwise R b → AllByRecursion (λ x. AllByRecursion (R x) b) a → Pairwise R (a ++ b)
+  pairs_joined R [] b p q r = q
+  pairs_joined R (y ∷ a) b p q r = (all_joined (R y) a b p.0 r.0, pairs_joined R a b p.1 q r.1)
 
   -- where one comes to the rear, behind such that may stand before it, all stand in order
   pub pairs_pushed : (R : X → X → Type 0) (a : List X) (x : X) → AllByRecursion (λ y. R y x) a → Pairwise R a → Pairwise R (a ++ x ∷ [])

@@ -1,15 +1,14 @@
 -- What a row does to one note: its fate becomes another, and with it the note goes from one place of the line to another.
 use Rattle.std.proofs.Common.{◌≡◌, ℕ, suc, ◌+◌, ◌==◌, Bool, true, false, ◌&&◌, List, ◌∷◌, ◌++◌, Some, refl, sym, ap, subst, arith, ◌∙◌}
 use Rattle.std.specs.List.{AllByRecursion, count_by}
-use Rattle.std.specs.Option.{option_to_list}
 use Rattle.std.proofs.lemmas.Bool.Decides.{nat_tests}
 use Rattle.spool.specs.declared.note.Note.{Note}
 use Rattle.note_line.specs.declared.fate.Told.{Told}
 use Rattle.note_line.specs.declared.fate.Fate.{Fate}
-use Rattle.note_line.specs.Line.{Line, next, standing, fate_of, with_fate}
-use Rattle.note_line.specs.Order.{Pairwise, Before}
-use Rattle.note_line.specs.Fates.{is_waiting, is_spooled, is_open, is_ended, is_number, has_fate, one_if, IsTold, OfKinds, LineValid, KeepsFates}
-use Rattle.note_line.proofs.Lists.{all_mapped, all_without, all_passed, pairs_without, pairs_passed}
+use Rattle.note_line.specs.Line.{Line, next, standing, is_number, fate_of, with_fate}
+use Rattle.note_line.specs.Fates.{is_waiting, is_spooled, is_open, is_ended, has_fate, one_if, IsTold, LineValid, KeepsFates}
+use Rattle.note_line.proofs.Lists.{all_mapped, all_without, the_one, all_with}
+use Rattle.note_line.proofs.Ordering.{IsOrdered, valid_of}
 use Rattle.note_line.proofs.Numbers.{fate_of-with_fate, fate_of-with_other, what_of-with_fate, length-with_fate}
 
 -- How often each number stands in a place of the line, which takes the notes whose fate passes the test: as often as
@@ -17,11 +16,11 @@ use Rattle.note_line.proofs.Numbers.{fate_of-with_fate, fate_of-with_other, what
 abbrev pub Recounts : (Fate → Bool) → Note → Fate → Fate → List Note → List Note → Type 0
 Recounts test note from to before after = (number : ℕ) → count_by (is_number number) after + one_if (test from && is_number number note) ≡ count_by (is_number number) before + one_if (test to && is_number number note)
 
--- all notes stand as they did; or one of them leaves, or goes to the front, past such that it may stand before
+-- all notes stand as they did; or one of them leaves, or goes to another place
 pub data Shifts (note : Note) (before after : List Note) : Type 0 where
   stays : after ≡ before → Shifts note before after
   leaves : (a b : List Note) → before ≡ a ++ note ∷ b → after ≡ a ++ b → Shifts note before after
-  passes_by : (a b : List Note) → AllByRecursion (Before note) a → before ≡ a ++ note ∷ b → after ≡ note ∷ (a ++ b) → Shifts note before after
+  elsewhere : (a b c d : List Note) → before ≡ a ++ note ∷ b → a ++ b ≡ c ++ d → after ≡ c ++ note ∷ d → Shifts note before after
 
 -- a note that hasn't ended goes from one fate to another
 pub record Moves (g h : Line) : Type 0 where
@@ -34,20 +33,17 @@ pub record Moves (g h : Line) : Type 0 where
   pub shifts : Shifts note (standing g) (standing h)
   pub waiting : Recounts is_waiting note from to g.waiting h.waiting
   pub spooled : Recounts is_spooled note from to g.spool.notes h.spool.notes
-  pub opened : Recounts is_open note from to (option_to_list g.opened) (option_to_list h.opened)
-  pub of_kinds : OfKinds g → OfKinds h
+  pub opened : Recounts is_open note from to g.opened h.opened
+  pub ordered : IsOrdered h
 
--- ---- the order
+-- ---- what is so of each
 
 pub shifts-all : (P : Note → Type 0) (note : Note) (before after : List Note) → Shifts note before after → AllByRecursion P before → AllByRecursion P after
 shifts-all P note before after (stays e) p = subst (AllByRecursion P) (sym e) p
 shifts-all P note before after (leaves a b e f) p = subst (AllByRecursion P) (sym f) (all_without P a b note (subst (AllByRecursion P) e p))
-shifts-all P note before after (passes_by a b free e f) p = subst (AllByRecursion P) (sym f) (all_passed P a b note (subst (AllByRecursion P) e p))
-
-shifts-order : (note : Note) (before after : List Note) → Shifts note before after → Pairwise Before before → Pairwise Before after
-shifts-order note before after (stays e) p = subst (Pairwise Before) (sym e) p
-shifts-order note before after (leaves a b e f) p = subst (Pairwise Before) (sym f) (pairs_without Before a b note (subst (Pairwise Before) e p))
-shifts-order note before after (passes_by a b free e f) p = subst (Pairwise Before) (sym f) (pairs_passed Before a b note free (subst (Pairwise Before) e p))
+shifts-all P note before after (elsewhere a b c d e same f) p =
+    let stood = subst (AllByRecursion P) e p in
+    subst (AllByRecursion P) (sym f) (all_with P c d note (the_one P a b note stood) (subst (AllByRecursion P) same (all_without P a b note stood)))
 
 -- ---- the places
 
@@ -93,16 +89,12 @@ moves-told g h m note is = record {
 
 -- the line stays valid
 pub moves-valid : (g h : Line) → Moves g h → LineValid g → LineValid h
-moves-valid g h m v = record {
-  in_order = shifts-order m.note _ _ m.shifts v.in_order;
-  fated = record {
-    told = all_mapped _ _ (moves-told g h m) (standing h) (shifts-all _ m.note _ _ m.shifts v.fated.told);
-    waiting = rw m.told (recounted is_waiting m.note m.from m.to g.told g.waiting h.waiting m.was m.waiting v.fated.waiting);
-    spooled = rw m.told (recounted is_spooled m.note m.from m.to g.told g.spool.notes h.spool.notes m.was m.spooled v.fated.spooled);
-    opened = rw m.told (recounted is_open m.note m.from m.to g.told (option_to_list g.opened) (option_to_list h.opened) m.was m.opened v.fated.opened);
-  };
-  of_kinds = m.of_kinds v.of_kinds;
-}
+moves-valid g h m v = valid_of h m.ordered (record {
+  told = all_mapped _ _ (moves-told g h m) (standing h) (shifts-all _ m.note _ _ m.shifts v.fated.told);
+  waiting = rw m.told (recounted is_waiting m.note m.from m.to g.told g.waiting h.waiting m.was m.waiting v.fated.waiting);
+  spooled = rw m.told (recounted is_spooled m.note m.from m.to g.told g.spool.notes h.spool.notes m.was m.spooled v.fated.spooled);
+  opened = rw m.told (recounted is_open m.note m.from m.to g.told g.opened h.opened m.was m.opened v.fated.opened);
+})
 
 -- and keeps fates
 pub moves-fates : (g h : Line) → Moves g h → KeepsFates g h

@@ -1,14 +1,14 @@
 -- What each effect does to the line: it keeps it valid, and fates.
-use Rattle.std.proofs.Common.{◌≡◌, ℕ, suc, zero, ◌+◌, ◌==◌, Bool, true, false, not, ◌||◌, ◌&&◌, List, [], ◌∷◌, ◌++◌, length, Option, Some, None, option_map, find, refl, sym, ap, subst, arith, cond, append_assoc, ◌∙◌}
+use Rattle.std.proofs.Common.{◌≡◌, ℕ, suc, zero, ◌+◌, ◌<◌, ◌==◌, Bool, true, false, not, ◌||◌, ◌&&◌, List, [], ◌∷◌, ◌++◌, length, Option, Some, None, option_map, find, refl, sym, ap, subst, arith, cond, append_assoc, ◌∙◌}
 use Rattle.std.specs.Prelude.{nat_lt, if◌then◌else◌}
 use Rattle.std.specs.List.{AllByRecursion, count_by}
-use Rattle.std.specs.Option.{option_to_list}
 use Rattle.std.proofs.lemmas.Bool.{true≢false}
 use Rattle.std.proofs.lemmas.List.{length_push}
-use Rattle.std.proofs.lemmas.List.Sums.{sum_by_push, sum_by-cons}
+use Rattle.std.proofs.lemmas.List.Sums.{sum_by_push}
 use Rattle.std.proofs.lemmas.Bool.Decides.{nat_tests}
 use Rattle.spool.specs.declared.note.Note.{Note}
 use Rattle.spool.specs.declared.note.Kind.{Kind}
+use Rattle.spool.specs.ByNumber.{placed}
 use Rattle.spool.specs.Spool as spool
 use Rattle.spool.specs.Spool.{Spool, has_note, is_inactive}
 use Rattle.spool.specs.Table as states
@@ -20,14 +20,16 @@ use Rattle.note_line.specs.declared.fate.Fate.{Fate}
 use Rattle.note_line.specs.declared.fate.Fate.TheVariants.{Answered, Open, Waiting, Spooled, Dropped}
 use Rattle.note_line.specs.declared.fate.DropCause.{DropCause}
 use Rattle.note_line.specs.declared.fate.DropCause.TheVariants.{NoSpool, Full, Purged}
-use Rattle.note_line.specs.Line.{Line, opening, next, standing, is_spooled_kind, in_kind, fate_of, fated, noted, with_head, with_open, restated, lost_is_dropped, spooled, returned, sent, spool_head, drop_head, open_head, open_oldest_of, open_oldest, purge_oldest_of, purge_oldest, failed, fail_open, answered, with_kinds, begun}
-use Rattle.note_line.specs.Table3.{first_is, head_in_kind, head_may_go}
-use Rattle.note_line.specs.Order.{Pairwise, Before}
+use Rattle.note_line.specs.Line.{Line, opening, next, standing, is_number, without, is_spooled_kind, in_kind, fate_of, fated, noted, with_head, with_one, with_open, restated, lost_is_dropped, spooled, returned, sent, spool_head, drop_head, open_head, open_oldest_of, open_oldest, purge_oldest_of, purge_oldest, failed, fail_open, answered, with_kinds, begun}
+use Rattle.note_line.specs.Table3.{first_is, head_in_kind, head_may_go, may_open}
+use Rattle.note_line.specs.Order.{Less, Before}
 use Rattle.note_line.specs.Limits.{IsShort, AreShort}
-use Rattle.note_line.specs.Fates.{is_waiting, is_spooled, is_open, is_ended, tells, is_number, passes, has_fate, one_if, IsTold, LineValid, KeepsFates}
-use Rattle.note_line.proofs.Lists.{all_joined, all_mapped, all_without, pairs_pushed, Loses, loses_none, loses_one, fitted-loses}
+use Rattle.note_line.specs.Fates.{is_waiting, is_spooled, is_open, tells, passes, has_fate, one_if, IsTold, LineValid, KeepsFates}
+use Rattle.note_line.proofs.Lists.{all_joined, all_first, all_second, all_mapped, Loses, loses_none, loses_one, fitted-loses}
 use Rattle.note_line.proofs.Numbers.{told_of-more, told_of-last, has_fate-more, fate-given}
-use Rattle.note_line.proofs.Moves.{stays, leaves, passes_by, Moves, moves-valid, moves-fates, shifts-all}
+use Rattle.note_line.proofs.Moves.{stays, leaves, elsewhere, Moves, moves-valid, moves-fates, shifts-all}
+use Rattle.note_line.proofs.Ordering.{Ordered, ordered, valid_of, comes, head-leaves, head-opens, head-spools, oldest-opens, spooled-leaves, open-leaves, goes-back}
+use Rattle.note_line.proofs.Places.{IsOther, IsPlaced, placed-between, count-cons, count-within, count-placed, none_counted, IsFound, found-between}
 
 -- the line stays valid, and fates are kept
 pub record Keeps (g h : Line) : Type 0 where
@@ -109,16 +111,8 @@ is_sent (Some Waiting) e = absurd (cc)
 is_sent (Some Spooled) e = absurd (cc)
 is_sent (Some (Dropped cause)) e = absurd (cc)
 
-count-cons : (number : ℕ) (note : Note) (notes : List Note) → count_by (is_number number) (note ∷ notes) ≡ one_if (is_number number note) + count_by (is_number number) notes
-count-cons number note notes = sum_by-cons (λ (x : Note). one_if (is_number number x)) note notes
-
 count-push : (number : ℕ) (notes : List Note) (note : Note) → count_by (is_number number) (notes ++ note ∷ []) ≡ count_by (is_number number) notes + one_if (is_number number note)
 count-push number notes note = sum_by_push (λ (x : Note). one_if (is_number number x)) notes note
-
--- with one of the notes, and without it
-count-within : (number : ℕ) (a b : List Note) (note : Note) → count_by (is_number number) (a ++ note ∷ b) ≡ one_if (is_number number note) + count_by (is_number number) (a ++ b)
-count-within number [] b note = count-cons number note b
-count-within number (y ∷ a) b note = omega (arith, count-within number a b note, count-cons number y (a ++ note ∷ b), count-cons number y (a ++ b))
 
 -- one of the notes of a place passes its test
 one_passes : (a b : List Note) (note : Note) (t : Bool) → count_by (is_number note.number) (a ++ note ∷ b) ≡ one_if t → t ≡ true
@@ -128,15 +122,19 @@ one_passes a b note false e =
     let one : one_if (is_number note.number note) ≡ 1 = rw here refl in
     absurd (omega (arith, one, count-within note.number a b note, e))
 
--- the fates of the note that waits first, of a spooled one, and of the open one
+-- the fates of the note that waits first, of a spooled one, and of an open one
 pub head_waits : (l : Line) (note : Note) (notes : List Note) → l.waiting ≡ note ∷ notes → LineValid l → fate_of note.number l.told ≡ Some Waiting
 head_waits l note notes w v = waits _ (one_passes [] notes note _ (rw w at (v.fated.waiting note.number)))
 
 pub spooled_lies : (l : Line) (a b : List Note) (note : Note) → l.spool.notes ≡ a ++ note ∷ b → LineValid l → fate_of note.number l.told ≡ Some Spooled
 spooled_lies l a b note w v = lies _ (one_passes a b note _ (rw w at (v.fated.spooled note.number)))
 
-pub open_is_open : (l : Line) (note : Note) → l.opened ≡ Some note → LineValid l → fate_of note.number l.told ≡ Some Open
-open_is_open l note o v = is_sent _ (one_passes [] [] note _ (rw o at (v.fated.opened note.number)))
+pub open_is_open : (l : Line) (a b : List Note) (note : Note) → l.opened ≡ a ++ note ∷ b → LineValid l → fate_of note.number l.told ≡ Some Open
+open_is_open l a b note o v = is_sent _ (one_passes a b note _ (rw o at (v.fated.opened note.number)))
+
+-- no spooled note has the number of an open one
+pub none_spooled : (l : Line) (number : ℕ) → fate_of number l.told ≡ Some Open → LineValid l → AllByRecursion (IsOther number) l.spool.notes
+none_spooled l number is v = none_counted number l.spool.notes (rw is at (v.fated.spooled number))
 
 -- ---- notes move
 
@@ -149,28 +147,28 @@ head-dropped l (note ∷ notes) w v = moved l _ v (record {
   was = head_waits l note notes w v;
   stood = refl;
   told = refl;
-  shifts = leaves (option_to_list l.opened ++ l.spool.notes) notes (rw w (simp append_assoc)) (simp append_assoc);
+  shifts = leaves (l.opened ++ l.spool.notes) notes (rw w (simp append_assoc)) (simp append_assoc);
   waiting = λ number. rw w (let e = count-cons number note notes in omega (arith, e));
   spooled = λ number. refl;
   opened = λ number. refl;
-  of_kinds = λ k. k;
+  ordered = head-leaves l.opened l.spool.notes notes l.kinds l.window note (rw w at (ordered l v));
 })
 
--- the head goes to the open place, past spooled notes that it may stand before
-head-sent : (l : Line) (notes : List Note) → l.waiting ≡ notes → l.opened ≡ None → first_is (λ note. not (in_kind l.kinds note) || is_inactive l.spool.load) notes ≡ true → ((note : Note) → (not (in_kind l.kinds note) || is_inactive l.spool.load) ≡ true → AllByRecursion (Before note) l.spool.notes) → LineValid l → Goes l (with_head sent notes l)
-head-sent l [] w o may free v = same l v
-head-sent l (note ∷ notes) w o may free v = moved l _ v (record {
+-- the head goes behind the open ones, past spooled notes that it may stand before
+head-sent : (l : Line) (notes : List Note) → l.waiting ≡ notes → length l.opened < l.window → first_is (λ note. not (in_kind l.kinds note) || is_inactive l.spool.load) notes ≡ true → ((note : Note) → (not (in_kind l.kinds note) || is_inactive l.spool.load) ≡ true → AllByRecursion (Before note) l.spool.notes) → LineValid l → Goes l (with_head sent notes l)
+head-sent l [] w few may free v = same l v
+head-sent l (note ∷ notes) w few may free v = moved l _ v (record {
   note = note;
   from = Waiting;
   to = Open;
   was = head_waits l note notes w v;
   stood = refl;
   told = refl;
-  shifts = passes_by l.spool.notes notes (free note may) (rw (o, w) refl) refl;
+  shifts = elsewhere (l.opened ++ l.spool.notes) notes l.opened (l.spool.notes ++ notes) (rw w (simp append_assoc)) (simp append_assoc) (simp append_assoc);
   waiting = λ number. rw w (let e = count-cons number note notes in omega (arith, e));
   spooled = λ number. refl;
-  opened = λ number. rw o (let e = count-cons number note [] in omega (arith, e));
-  of_kinds = λ k. k;
+  opened = λ number. let e = count-push number l.opened note in omega (arith, e);
+  ordered = head-opens l.opened l.spool.notes notes l.kinds l.window note few (free note may) (rw w at (ordered l v));
 })
 
 -- the head goes to the rear of the spool
@@ -186,39 +184,49 @@ head-spooled l note notes s w e in_kinds v = moved l _ v (record {
   waiting = λ number. rw w (let k = count-cons number note notes in omega (arith, k));
   spooled = λ number. rw e (let k = count-push number l.spool.notes note in omega (arith, k));
   opened = λ number. refl;
-  of_kinds = λ k. rw e (all_joined _ l.spool.notes (note ∷ []) k (in_kinds, tt));
+  ordered = rw e (head-spools l.opened l.spool.notes notes l.kinds l.window note in_kinds (rw w at (ordered l v)));
 })
 
--- the open note goes to the front of the spool
-open-spooled : (l : Line) (note : Note) (s : Spool) → l.opened ≡ Some note → s.notes ≡ note ∷ l.spool.notes → in_kind l.kinds note ≡ true → LineValid l → Goes l (fated Spooled note (record l { opened = None; spool = s }))
-open-spooled l note s o e in_kinds v = moved l _ v (record {
+-- lists one behind another, of which the third is in two parts
+regrouped : (a b c first second d : List Note) → c ≡ first ++ second → a ++ (b ++ (c ++ d)) ≡ ((a ++ b) ++ first) ++ (second ++ d)
+regrouped a b c first second d e = rw e (simp append_assoc)
+
+-- an open note goes to its place in the spool
+open-spooled : (l : Line) (number : ℕ) (note : Note) (s : Spool) → IsFound number l.opened note → s.notes ≡ placed note l.spool.notes → in_kind l.kinds note ≡ true → LineValid l → Goes l (fated Spooled note (record l { opened = without number l.opened; spool = s }))
+open-spooled l number note s found e in_kinds v = moved l _ v (record {
   note = note;
   from = Open;
   to = Spooled;
-  was = open_is_open l note o v;
+  was = is_open_;
   stood = refl;
   told = refl;
-  shifts = stays (rw (o, e) refl);
-  waiting = λ number. refl;
-  spooled = λ number. rw e (let k = count-cons number note l.spool.notes in omega (arith, k));
-  opened = λ number. rw o (let k = count-cons number note [] in omega (arith, k));
-  of_kinds = λ k. rw e (in_kinds, k);
-})
+  shifts = elsewhere found.before (found.behind ++ (l.spool.notes ++ l.waiting)) ((found.before ++ found.behind) ++ place.before) (place.behind ++ l.waiting)
+      (rw found.whole (simp append_assoc)) (regrouped found.before found.behind l.spool.notes place.before place.behind l.waiting place.whole) (rw (found.others, e, place.is) (simp append_assoc));
+  waiting = λ other. refl;
+  spooled = λ other. rw e (let k = count-placed other note l.spool.notes in omega (arith, k));
+  opened = λ other. rw (found.others, found.whole) (let k = count-within other found.before found.behind note in omega (arith, k));
+  ordered = rw (found.others, e) (goes-back found.before found.behind l.spool.notes l.waiting l.kinds l.window note in_kinds (none_spooled l note.number is_open_ v) (rw found.whole at (ordered l v)));
+}) where
+  is_open_ : fate_of note.number l.told ≡ Some Open
+  is_open_ = open_is_open l found.before found.behind note found.whole v
 
--- the oldest spooled note goes to the open place
-oldest-sent : (l : Line) (note : Note) (notes : List Note) (s : Spool) → l.spool.notes ≡ note ∷ notes → l.opened ≡ None → s.notes ≡ notes → LineValid l → Goes l (sent note (record l { spool = s }))
-oldest-sent l note notes s w o e v = moved l _ v (record {
+  place : IsPlaced note l.spool.notes
+  place = placed-between note l.spool.notes
+
+-- the oldest spooled note goes behind the open ones
+oldest-sent : (l : Line) (note : Note) (notes : List Note) (s : Spool) → l.spool.notes ≡ note ∷ notes → length l.opened < l.window → s.notes ≡ notes → LineValid l → Goes l (sent note (record l { spool = s }))
+oldest-sent l note notes s w few e v = moved l _ v (record {
   note = note;
   from = Spooled;
   to = Open;
   was = spooled_lies l [] notes note w v;
   stood = refl;
   told = refl;
-  shifts = stays (rw (o, w, e) refl);
+  shifts = stays (rw (w, e) (simp append_assoc));
   waiting = λ number. refl;
   spooled = λ number. rw (w, e) (let k = count-cons number note notes in omega (arith, k));
-  opened = λ number. rw o (let k = count-cons number note [] in omega (arith, k));
-  of_kinds = λ k. rw e (subst (AllByRecursion (λ note. in_kind l.kinds note ≡ true)) w k).1;
+  opened = λ number. let k = count-push number l.opened note in omega (arith, k);
+  ordered = rw e (oldest-opens l.opened notes l.waiting l.kinds l.window note few (rw w at (ordered l v)));
 })
 
 -- a spooled note is dropped
@@ -230,27 +238,27 @@ spooled-dropped cause l a b note s w e v = moved l _ v (record {
   was = spooled_lies l a b note w v;
   stood = refl;
   told = refl;
-  shifts = leaves (option_to_list l.opened ++ a) (b ++ l.waiting) (rw w (simp append_assoc)) (rw e (simp append_assoc));
+  shifts = leaves (l.opened ++ a) (b ++ l.waiting) (rw w (simp append_assoc)) (rw e (simp append_assoc));
   waiting = λ number. refl;
   spooled = λ number. rw (w, e) (let k = count-within number a b note in omega (arith, k));
   opened = λ number. refl;
-  of_kinds = λ k. rw e (all_without _ a b note (subst (AllByRecursion (λ note. in_kind l.kinds note ≡ true)) w k));
+  ordered = rw e (spooled-leaves l.opened a b l.waiting l.kinds l.window note (rw w at (ordered l v)));
 })
 
--- the open note ends
-open-ended : (l : Line) (fate : Fate) (note : Note) → is_ended fate ≡ true → is_waiting fate ≡ false → is_spooled fate ≡ false → is_open fate ≡ false → l.opened ≡ Some note → LineValid l → Goes l (fated fate note (record l { opened = None }))
-open-ended l fate note ended w s p o v = moved l _ v (record {
+-- an open note ends
+open-ended : (l : Line) (number : ℕ) (fate : Fate) (note : Note) → is_waiting fate ≡ false → is_spooled fate ≡ false → is_open fate ≡ false → IsFound number l.opened note → LineValid l → Goes l (fated fate note (record l { opened = without number l.opened }))
+open-ended l number fate note w s p found v = moved l _ v (record {
   note = note;
   from = Open;
   to = fate;
-  was = open_is_open l note o v;
+  was = open_is_open l found.before found.behind note found.whole v;
   stood = refl;
   told = refl;
-  shifts = leaves [] (l.spool.notes ++ l.waiting) (rw o refl) refl;
-  waiting = λ number. rw w refl;
-  spooled = λ number. rw s refl;
-  opened = λ number. rw (o, p) (let e = count-cons number note [] in omega (arith, e));
-  of_kinds = λ k. k;
+  shifts = leaves found.before (found.behind ++ (l.spool.notes ++ l.waiting)) (rw found.whole (simp append_assoc)) (rw found.others (simp append_assoc));
+  waiting = λ other. rw w refl;
+  spooled = λ other. rw s refl;
+  opened = λ other. rw (found.others, found.whole, p) (let e = count-within other found.before found.behind note in omega (arith, e));
+  ordered = rw found.others (open-leaves found.before found.behind l.spool.notes l.waiting l.kinds l.window note (rw found.whole at (ordered l v)));
 })
 
 -- ---- the rule of a full spool
@@ -270,11 +278,11 @@ head-to-spool l overwrite (note ∷ notes) w k v =
     (fitted-loses overwrite l.spool.capacity (l.spool.notes ++ note ∷ [])) refl
     (λ t e. head-spooled l note notes t w e k v)
 
-open-to-spool : (l : Line) (overwrite : Bool) (note : Note) → l.opened ≡ Some note → in_kind l.kinds note ≡ true → LineValid l → Goes l (returned overwrite note (record l { opened = None }))
-open-to-spool l overwrite note o k v =
-    lost-dropped l (fated Spooled note (record l { opened = None })) (spool.put_back overwrite note l.spool) (note ∷ l.spool.notes) _ _
-    (fitted-loses overwrite l.spool.capacity (note ∷ l.spool.notes)) refl
-    (λ t e. open-spooled l note t o e k v)
+open-to-spool : (l : Line) (overwrite : Bool) (number : ℕ) (note : Note) → IsFound number l.opened note → in_kind l.kinds note ≡ true → LineValid l → Goes l (returned overwrite note (record l { opened = without number l.opened }))
+open-to-spool l overwrite number note found k v =
+    lost-dropped l (fated Spooled note (record l { opened = without number l.opened })) (spool.put_back overwrite note l.spool) (placed note l.spool.notes) _ _
+    (fitted-loses overwrite l.spool.capacity (placed note l.spool.notes)) refl
+    (λ t e. open-spooled l number note t found e k v)
 
 -- ---- the states of the spool
 
@@ -300,16 +308,12 @@ begun-notes rsdc a s = of (spool.rsda s == 0) (rsdc == 0) where
 -- another spool with the same notes
 respooled : (l : Line) (s : Spool) → s.notes ≡ l.spool.notes → LineValid l → Goes l (record l { spool = s })
 respooled l s e v = record {
-  valid = record {
-    in_order = subst (Pairwise Before) (sym stand) v.in_order;
-    fated = record {
-      told = subst (AllByRecursion (IsTold h)) (sym stand) (all_mapped (IsTold l) (IsTold h) told_still (standing l) v.fated.told);
-      waiting = v.fated.waiting;
-      spooled = λ number. ap (count_by (is_number number)) e ∙ v.fated.spooled number;
-      opened = v.fated.opened;
-    };
-    of_kinds = subst (AllByRecursion (λ note. in_kind l.kinds note ≡ true)) (sym e) v.of_kinds;
-  };
+  valid = valid_of h (subst (λ (notes : List Note). Ordered l.opened notes l.waiting l.kinds l.window) (sym e) (ordered l v)) (record {
+    told = subst (AllByRecursion (IsTold h)) (sym stand) (all_mapped (IsTold l) (IsTold h) told_still (standing l) v.fated.told);
+    waiting = v.fated.waiting;
+    spooled = λ number. ap (count_by (is_number number)) e ∙ v.fated.spooled number;
+    opened = v.fated.opened;
+  });
   fates = record { numbers = omega arith; what = λ number b. refl; ended = λ number fate f over. f };
   short = λ short. subst (AllByRecursion IsShort) (sym stand) short;
 } where
@@ -317,7 +321,7 @@ respooled l s e v = record {
   h = record l { spool = s }
 
   stand : standing h ≡ standing l
-  stand = ap (λ notes. option_to_list l.opened ++ (notes ++ l.waiting)) e
+  stand = ap (λ notes. l.opened ++ (notes ++ l.waiting)) e
 
   told_still : (note : Note) → IsTold l note → IsTold h note
   told_still note is = record { from_one = is.from_one; below = is.below; what = is.what }
@@ -346,21 +350,25 @@ free_of_kinds : (kinds : SpooledKinds) (note : Note) (notes : List Note) → in_
 free_of_kinds kinds note notes out are = all_mapped (λ x. in_kind kinds x ≡ true) (Before note) (λ x here one_kind. absurd (true≢false (sym here ∙ (ap (is_spooled_kind kinds) (sym one_kind) ∙ out)))) notes are
 
 -- where row 1 isn't ready, a head that may be sent may stand before the spooled notes
-may_stand : (l : Line) → (is_inactive l.spool.load && has_note l.spool) ≡ false → LineValid l → (note : Note) → (not (in_kind l.kinds note) || is_inactive l.spool.load) ≡ true → AllByRecursion (Before note) l.spool.notes
+pub may_stand : (l : Line) → (is_inactive l.spool.load && has_note l.spool) ≡ false → LineValid l → (note : Note) → (not (in_kind l.kinds note) || is_inactive l.spool.load) ≡ true → AllByRecursion (Before note) l.spool.notes
 may_stand l quiet v note may = of (in_kind l.kinds note) (is_inactive l.spool.load) refl may quiet where
   of : (k i : Bool) → in_kind l.kinds note ≡ k → (not k || i) ≡ true → (i && has_note l.spool) ≡ false → AllByRecursion (Before note) l.spool.notes
   of true true is e q = rw (no_notes l.spool.notes q) tt
   of true false is e q = absurd (true≢false (sym e))
   of false i is e q = free_of_kinds l.kinds note l.spool.notes is v.of_kinds
 
-pub open-goes : (l : Line) → (is_inactive l.spool.load && has_note l.spool) ≡ false → head_may_go l ≡ true → l.opened ≡ None → LineValid l → Goes l (open_head l)
-open-goes l quiet may o v = head-sent l l.waiting refl o may (may_stand l quiet v) v
+-- one more may be open
+pub fewer : (l : Line) → may_open l ≡ true → length l.opened < l.window
+fewer l e = let few : nat_lt (length l.opened) l.window ≡ true = e in grind (arith, nat_tests, few)
 
-pub oldest-goes : (l : Line) → l.opened ≡ None → LineValid l → Goes l (open_oldest l)
-oldest-goes l o v = of l.spool.notes refl where
+pub open-goes : (l : Line) → (is_inactive l.spool.load && has_note l.spool) ≡ false → head_may_go l ≡ true → may_open l ≡ true → LineValid l → Goes l (open_head l)
+open-goes l quiet may few v = head-sent l l.waiting refl (fewer l few) may (may_stand l quiet v) v
+
+pub oldest-goes : (l : Line) → may_open l ≡ true → LineValid l → Goes l (open_oldest l)
+oldest-goes l few v = of l.spool.notes refl where
   of : (notes : List Note) → l.spool.notes ≡ notes → Goes l (open_oldest_of notes l)
   of [] w = same l v
-  of (note ∷ notes) w = oldest-sent l note notes (spool.sent l.spool) w o (rw w refl) v
+  of (note ∷ notes) w = oldest-sent l note notes (spool.sent l.spool) w (fewer l few) (rw w refl) v
 
 pub purge-goes : (l : Line) → LineValid l → Goes l (purge_oldest l)
 purge-goes l v = of l.spool.notes refl where
@@ -368,27 +376,30 @@ purge-goes l v = of l.spool.notes refl where
   of [] w = same l v
   of (note ∷ notes) w = spooled-dropped Purged l [] notes note (spool.purged l.spool) w (rw w refl) v
 
--- the transaction of the open note fails
-failed-goes : (a : Around) (l : Line) (note : Note) → l.opened ≡ Some note → LineValid l → Goes l (failed a note (record l { opened = None }))
-failed-goes a l note o v = of (in_kind l.kinds note) refl where
-  of : (b : Bool) → in_kind l.kinds note ≡ b → Goes l (if b then returned a.overwrites note (record l { opened = None }) else fated (Dropped NoSpool) note (record l { opened = None }))
-  of true k = open-to-spool l a.overwrites note o k v
-  of false k = open-ended l (Dropped NoSpool) note refl refl refl refl o v
+-- what is done with the open note of a number
+with-open : (act : Note → Line → Line) (number : ℕ) (l : Line) → ((note : Note) → IsFound number l.opened note → Goes l (act note (record l { opened = without number l.opened }))) → LineValid l → Goes l (with_open act number l)
+with-open act number l goes v = of (find (is_number number) l.opened) refl where
+  of : (one : Option Note) → find (is_number number) l.opened ≡ one → Goes l (with_one act number one l)
+  of None e = same l v
+  of (Some note) e = goes note (found-between number l.opened note e)
 
-with-open : (act : Note → Line → Line) (l : Line) (one : Option Note) → l.opened ≡ one → ((note : Note) → l.opened ≡ Some note → Goes l (act note (record l { opened = None }))) → LineValid l → Goes l (with_open act one l)
-with-open act l None o goes v = same l v
-with-open act l (Some note) o goes v = goes note o
+-- the transaction of an open note fails
+failed-goes : (a : Around) (number : ℕ) (l : Line) (note : Note) → IsFound number l.opened note → LineValid l → Goes l (failed a note (record l { opened = without number l.opened }))
+failed-goes a number l note at v = of (in_kind l.kinds note) refl where
+  of : (b : Bool) → in_kind l.kinds note ≡ b → Goes l (if b then returned a.overwrites note (record l { opened = without number l.opened }) else fated (Dropped NoSpool) note (record l { opened = without number l.opened }))
+  of true k = open-to-spool l a.overwrites number note at k v
+  of false k = open-ended l number (Dropped NoSpool) note refl refl refl at v
 
-pub fail-goes : (a : Around) (l : Line) → LineValid l → Goes l (fail_open a l)
-fail-goes a l v =
-    let first = with-open (failed a) l l.opened refl (λ note o. failed-goes a l note o v) v in
+pub fail-goes : (a : Around) (number : ℕ) (l : Line) → LineValid l → Goes l (fail_open a number l)
+fail-goes a number l v =
+    let first = with-open (failed a) number l (λ note at. failed-goes a number l note at v) v in
     together l _ _ first (restated-goes 14 _ first.valid)
 
-pub answered-goes : (l : Line) → LineValid l → Goes l (answered l)
-answered-goes l v = with-open (fated Answered) l l.opened refl (λ note o. open-ended l Answered note refl refl refl refl o v) v
+pub answered-goes : (number : ℕ) (l : Line) → LineValid l → Goes l (answered number l)
+answered-goes number l v = with-open (fated Answered) number l (λ note at. open-ended l number Answered note refl refl refl at v) v
 
-pub answered-keeps : (l : Line) → LineValid l → Keeps l (answered l)
-answered-keeps l v = keeps _ _ (answered-goes l v)
+pub answered-keeps : (number : ℕ) (l : Line) → LineValid l → Keeps l (answered number l)
+answered-keeps number l v = keeps _ _ (answered-goes number l v)
 
 -- ---- the kinds
 
@@ -396,7 +407,9 @@ answered-keeps l v = keeps _ _ (answered-goes l v)
 other_kinds : (kinds : SpooledKinds) (l : Line) → has_note l.spool ≡ false → LineValid l → Goes l (record l { kinds = kinds })
 other_kinds kinds l none v = record {
   valid = record {
-    in_order = v.in_order;
+    in_order = record { rise = v.in_order.rise; above = v.in_order.above };
+    one_by_one = v.one_by_one;
+    within = v.within;
     fated = record { told = all_mapped _ _ told_still _ v.fated.told; waiting = v.fated.waiting; spooled = v.fated.spooled; opened = v.fated.opened };
     of_kinds = rw (no_notes l.spool.notes none) tt;
   };
@@ -439,16 +452,17 @@ new_is_told kind id text l = record {
 }
 
 noted-valid : (kind : Kind) (id : ℕ) (text : List ℕ) (l : Line) → LineValid l → LineValid (noted kind id text l)
-noted-valid kind id text l v = record {
-  in_order = rw (noted_standing kind id text l) (pairs_pushed Before (standing l) _ (all_mapped (IsTold l) _ (λ note is one_kind. is.below) (standing l) v.fated.told) v.in_order);
-  fated = record {
-    told = rw (noted_standing kind id text l) (all_joined _ (standing l) (_ ∷ []) (all_mapped (IsTold l) _ (told_still kind id text l) (standing l) v.fated.told) (new_is_told kind id text l, tt));
-    waiting = λ number. let e = v.fated.waiting number in omega (arith, e, count-push number l.waiting (record { number = next l; kind = kind; id = id; text = text }), has_fate-more is_waiting number l.told (record { kind = kind; id = id; fate = Waiting }));
-    spooled = λ number. let e = v.fated.spooled number in omega (arith, e, has_fate-more is_spooled number l.told (record { kind = kind; id = id; fate = Waiting }));
-    opened = λ number. let e = v.fated.opened number in omega (arith, e, has_fate-more is_open number l.told (record { kind = kind; id = id; fate = Waiting }));
-  };
-  of_kinds = v.of_kinds;
-}
+noted-valid kind id text l v =
+    let note : Note = record { number = next l; kind = kind; id = id; text = text } in
+    let below = all_mapped (IsTold l) (λ (x : Note). Less x note) (λ x is. is.below) (standing l) v.fated.told in
+    valid_of (noted kind id text l)
+    (comes l.opened l.spool.notes l.waiting l.kinds l.window note (all_first (λ (x : Note). Less x note) l.opened (l.spool.notes ++ l.waiting) below) (all_second (λ (x : Note). Less x note) l.opened (l.spool.notes ++ l.waiting) below) (ordered l v))
+    (record {
+      told = rw (noted_standing kind id text l) (all_joined _ (standing l) (_ ∷ []) (all_mapped (IsTold l) _ (told_still kind id text l) (standing l) v.fated.told) (new_is_told kind id text l, tt));
+      waiting = λ number. let e = v.fated.waiting number in omega (arith, e, count-push number l.waiting note, has_fate-more is_waiting number l.told (record { kind = kind; id = id; fate = Waiting }));
+      spooled = λ number. let e = v.fated.spooled number in omega (arith, e, has_fate-more is_spooled number l.told (record { kind = kind; id = id; fate = Waiting }));
+      opened = λ number. let e = v.fated.opened number in omega (arith, e, has_fate-more is_open number l.told (record { kind = kind; id = id; fate = Waiting }));
+    })
 
 noted-fates : (kind : Kind) (id : ℕ) (text : List ℕ) (l : Line) → KeepsFates l (noted kind id text l)
 noted-fates kind id text l = record {
@@ -466,5 +480,11 @@ none_given : (test : Fate → Bool) (number : ℕ) → 0 ≡ one_if (has_fate te
 none_given test zero = refl
 none_given test (suc place) = refl
 
-pub opening-valid : (capacity : ℕ) (kinds : SpooledKinds) → LineValid (opening capacity kinds)
-opening-valid capacity kinds = record { in_order = tt; fated = record { told = tt; waiting = none_given is_waiting; spooled = none_given is_spooled; opened = none_given is_open }; of_kinds = tt }
+pub opening-valid : (capacity window : ℕ) (kinds : SpooledKinds) → LineValid (opening capacity window kinds)
+opening-valid capacity window kinds = record {
+  in_order = record { rise = tt; above = tt };
+  one_by_one = λ is. tt;
+  within = omega arith;
+  fated = record { told = tt; waiting = none_given is_waiting; spooled = none_given is_spooled; opened = none_given is_open };
+  of_kinds = tt;
+}

@@ -1,8 +1,7 @@
--- A note that is open is not below one of its kind that was open before.
+-- Where one note may be open at once, a note that is open is not below one of its kind that was open before.
 use Rattle.std.proofs.Common.{◌≡◌, ℕ, ◌+◌, ◌<◌, ◌≤◌, ◌==◌, Bool, true, false, List, [], ◌∷◌, ◌++◌, Option, Some, None, IsSome, refl, sym, ap, subst, arith, ◌∙◌}
 use Rattle.std.specs.Prelude.{nat_lt}
 use Rattle.std.specs.List.{AllByRecursion, count_by}
-use Rattle.std.specs.Option.{option_to_list}
 use Rattle.std.proofs.lemmas.Bool.{true≢false}
 use Rattle.std.proofs.lemmas.Bool.Decides.{nat_tests}
 use Rattle.std.proofs.lemmas.List.Sums.{sum_by-cons}
@@ -10,11 +9,11 @@ use Rattle.spool.specs.declared.note.Note.{Note}
 use Rattle.spool.specs.declared.note.Kind.{Kind}
 use Rattle.note_line.specs.declared.fate.Fate.{Fate}
 use Rattle.note_line.specs.declared.fate.Fate.TheVariants.{Answered, Open, Waiting, Spooled, Dropped}
-use Rattle.note_line.specs.Line.{Line, fate_of}
-use Rattle.note_line.specs.Order.{Pairwise, Before}
-use Rattle.note_line.specs.Fates.{what_of, is_number, one_if, IsTold, LineValid, KeepsFates}
+use Rattle.note_line.specs.Line.{Line, is_number, fate_of}
+use Rattle.note_line.specs.Order.{Less, Before}
+use Rattle.note_line.specs.Fates.{what_of, one_if, IsTold, LineValid, KeepsFates}
 use Rattle.note_line.proofs.Keeps.{open_is_open, has-fate}
-use Rattle.note_line.proofs.Lists.{all_first, all_second}
+use Rattle.note_line.proofs.Lists.{all_first, all_second, all_mapped, all_joined}
 
 -- a number that stands among some notes is that of one of them
 pub counted : {Q : Type 0} (P : Note → Type 0) (number : ℕ) (notes : List Note) → count_by (is_number number) notes ≡ 1 → AllByRecursion P notes → ((note : Note) → note.number ≡ number → P note → Q) → Q
@@ -39,23 +38,23 @@ kind_of : (l : Line) (x y : Note) → x.number ≡ y.number → what_of x.number
 kind_of l x y same first second =
     ap (kind_in x.kind) (sym first ∙ (ap (λ (n : ℕ). what_of n l.told) same ∙ second))
 
-pub never-back : (g h : Line) (earlier later : Note) → LineValid g → LineValid h → KeepsFates g h → g.opened ≡ Some earlier → h.opened ≡ Some later → earlier.kind ≡ later.kind → earlier.number ≤ later.number
-never-back g h earlier later v w keeps was is one_kind = by_order (nat_lt later.number earlier.number) refl where
-  -- the open one stands first
+pub never-back : (g h : Line) (earlier later : Note) → LineValid g → LineValid h → g.window ≡ 1 → KeepsFates g h → g.opened ≡ earlier ∷ [] → h.opened ≡ later ∷ [] → earlier.kind ≡ later.kind → earlier.number ≤ later.number
+never-back g h earlier later v w one keeps was is one_kind = by_order (nat_lt later.number earlier.number) refl where
   its : IsTold g earlier
-  its = (subst (λ (o : Option Note). AllByRecursion (IsTold g) (option_to_list o ++ (g.spool.notes ++ g.waiting))) was v.fated.told).0
+  its = (subst (λ (o : List Note). AllByRecursion (IsTold g) (o ++ (g.spool.notes ++ g.waiting))) was v.fated.told).0
 
+  -- each other one stands behind the open one
   behind : AllByRecursion (Before earlier) (g.spool.notes ++ g.waiting)
-  behind = (subst (λ (o : Option Note). Pairwise Before (option_to_list o ++ (g.spool.notes ++ g.waiting))) was v.in_order).0
+  behind = all_joined (Before earlier) g.spool.notes g.waiting (rw was at (v.one_by_one one)).0 (all_mapped (Less earlier) (Before earlier) (λ x less same. less) g.waiting (rw was at v.in_order.above).0)
 
   told_behind : AllByRecursion (IsTold g) (g.spool.notes ++ g.waiting)
-  told_behind = (subst (λ (o : Option Note). AllByRecursion (IsTold g) (option_to_list o ++ (g.spool.notes ++ g.waiting))) was v.fated.told).1
+  told_behind = (subst (λ (o : List Note). AllByRecursion (IsTold g) (o ++ (g.spool.notes ++ g.waiting))) was v.fated.told).1
 
   its_later : IsTold h later
-  its_later = (subst (λ (o : Option Note). AllByRecursion (IsTold h) (option_to_list o ++ (h.spool.notes ++ h.waiting))) is w.fated.told).0
+  its_later = (subst (λ (o : List Note). AllByRecursion (IsTold h) (o ++ (h.spool.notes ++ h.waiting))) is w.fated.told).0
 
   open_later : fate_of later.number h.told ≡ Some Open
-  open_later = open_is_open h later is w
+  open_later = open_is_open h [] [] later is w
 
   -- where the later number is the lesser, it told of its kind at first already
   told_first : later.number < earlier.number → what_of later.number g.told ≡ Some (later.kind, later.id)
@@ -81,8 +80,8 @@ never-back g h earlier later v w keeps was is one_kind = by_order (nat_lt later.
   by_fate Spooled e less = not_behind g.spool.notes (rw e at (v.fated.spooled later.number)) (all_first (Before earlier) g.spool.notes g.waiting behind) (all_first (IsTold g) g.spool.notes g.waiting told_behind) less
   by_fate Waiting e less = not_behind g.waiting (rw e at (v.fated.waiting later.number)) (all_second (Before earlier) g.spool.notes g.waiting behind) (all_second (IsTold g) g.spool.notes g.waiting told_behind) less
   by_fate Open e less =
-      let one : count_by (is_number later.number) (option_to_list g.opened) ≡ 1 = rw e at (v.fated.opened later.number) in
-      let of_earlier : count_by (is_number later.number) (earlier ∷ []) ≡ 1 = subst (λ (o : Option Note). count_by (is_number later.number) (option_to_list o) ≡ 1) was one in
+      let counts : count_by (is_number later.number) g.opened ≡ 1 = rw e at (v.fated.opened later.number) in
+      let of_earlier : count_by (is_number later.number) (earlier ∷ []) ≡ 1 = subst (λ (o : List Note). count_by (is_number later.number) o ≡ 1) was counts in
       counted (λ (z : Note). z ≡ earlier) later.number (earlier ∷ []) of_earlier (refl, tt)
       (λ z same at. let number : z.number ≡ earlier.number = ap (λ (n : Note). n.number) at in absurd (omega (arith, number, same, less)))
 

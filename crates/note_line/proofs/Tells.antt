@@ -1,5 +1,5 @@
 -- What the numbers tell of, from number 1 on: a new note adds what it tells of, and no row and no answer changes it.
-use Rattle.std.proofs.Common.{◌≡◌, ℕ, zero, suc, ◌==◌, Bool, true, false, List, [], ◌∷◌, ◌++◌, map, Option, Some, None, if◌then◌else◌, refl, ap, ◌∙◌}
+use Rattle.std.proofs.Common.{◌≡◌, ℕ, zero, suc, ◌==◌, Bool, true, false, List, [], ◌∷◌, ◌++◌, map, find, Option, Some, None, if◌then◌else◌, refl, ap, ◌∙◌}
 use Rattle.std.specs.List.{AllByRecursion}
 use Rattle.gem_tables.specs.Table.{update_at}
 use Rattle.spool.specs.declared.note.Note.{Note}
@@ -10,7 +10,7 @@ use Rattle.note_line.specs.declared.fate.Told.{Told}
 use Rattle.note_line.specs.declared.fate.Fate.{Fate}
 use Rattle.note_line.specs.declared.fate.Fate.TheVariants.{Answered, Dropped, Waiting, Spooled}
 use Rattle.note_line.specs.declared.fate.DropCause.TheVariants.{NoSpool, Full}
-use Rattle.note_line.specs.Line.{Line, in_kind, with_fate, fated, sent, with_head, with_open, lost_is_dropped, spooled, returned, failed, open_oldest_of, purge_oldest_of, answered}
+use Rattle.note_line.specs.Line.{Line, is_number, without, in_kind, with_fate, fated, sent, with_head, with_one, with_open, lost_is_dropped, spooled, returned, failed, open_oldest_of, purge_oldest_of, answered}
 use Rattle.note_line.specs.Table3.{Row, line_table, row_of, row_effect, effect_of}
 use Rattle.note_line.specs.Fates.{tells}
 use Rattle.note_line.proofs.Rows.{find_gives}
@@ -48,14 +48,17 @@ failed-tells a note l = of (in_kind l.kinds note) where
   of true = returned-tells a.overwrites note l
   of false = fated-tells (Dropped NoSpool) note l
 
--- the first of those that wait, the oldest spooled one, and the open one
+-- the first of those that wait, the oldest spooled one, and an open one
 head-tells : (act : Note → Line → Line) → ((note : Note) (h : Line) → Tells h (act note h)) → (notes : List Note) (l : Line) → Tells l (with_head act notes l)
 head-tells act acts [] l = refl
 head-tells act acts (note ∷ notes) l = acts note (record l { waiting = notes })
 
-open-tells : (act : Note → Line → Line) → ((note : Note) (h : Line) → Tells h (act note h)) → (one : Option Note) (l : Line) → Tells l (with_open act one l)
-open-tells act acts None l = refl
-open-tells act acts (Some note) l = acts note (record l { opened = None })
+one-tells : (act : Note → Line → Line) → ((note : Note) (h : Line) → Tells h (act note h)) → (number : ℕ) (one : Option Note) (l : Line) → Tells l (with_one act number one l)
+one-tells act acts number None l = refl
+one-tells act acts number (Some note) l = acts note (record l { opened = without number l.opened })
+
+open-tells : (act : Note → Line → Line) → ((note : Note) (h : Line) → Tells h (act note h)) → (number : ℕ) (l : Line) → Tells l (with_open act number l)
+open-tells act acts number l = one-tells act acts number (find (is_number number) l.opened) l
 
 sent-tells : (note : Note) (l : Line) → Tells l (sent note l)
 sent-tells note l = with_fate-tells note.number _ l.told
@@ -68,42 +71,42 @@ purged-tells : (notes : List Note) (l : Line) → Tells l (purge_oldest_of notes
 purged-tells [] l = refl
 purged-tells (note ∷ notes) l = with_fate-tells note.number _ l.told
 
-pub answered-tells : (l : Line) → map tells (answered l).told ≡ map tells l.told
-answered-tells l = open-tells (fated Answered) (fated-tells Answered) l.opened l
+pub answered-tells : (number : ℕ) (l : Line) → map tells (answered number l).told ≡ map tells l.told
+answered-tells number l = open-tells (fated Answered) (fated-tells Answered) number l
 
 -- the row of a number
 abbrev RowTells : Row → Type 0
-RowTells r = (a : Around) (l : Line) → Tells l (r.effect a l)
+RowTells r = (a : Around) (number : ℕ) (l : Line) → Tells l (r.effect a number l)
 
 rows_tell : AllByRecursion RowTells line_table
 rows_tell = (
-  (λ a l. refl),
+  (λ a number l. refl),
   (
-    (λ a l. refl),
+    (λ a number l. refl),
     (
-      (λ a l. refl),
+      (λ a number l. refl),
       (
-        (λ a l. refl),
+        (λ a number l. refl),
         (
-          (λ a l. refl),
+          (λ a number l. refl),
           (
-            (λ a l. purged-tells l.spool.notes l),
+            (λ a number l. purged-tells l.spool.notes l),
             (
-              (λ a l. refl),
+              (λ a number l. refl),
               (
-                (λ a l. refl),
+                (λ a number l. refl),
                 (
-                  (λ a l. refl),
+                  (λ a number l. refl),
                   (
-                    (λ a l. head-tells (spooled a.overwrites) (spooled-tells a.overwrites) l.waiting l),
+                    (λ a number l. head-tells (spooled a.overwrites) (spooled-tells a.overwrites) l.waiting l),
                     (
-                      (λ a l. head-tells (fated (Dropped NoSpool)) (fated-tells (Dropped NoSpool)) l.waiting l),
+                      (λ a number l. head-tells (fated (Dropped NoSpool)) (fated-tells (Dropped NoSpool)) l.waiting l),
                       (
-                        (λ a l. oldest-tells l.spool.notes l),
+                        (λ a number l. oldest-tells l.spool.notes l),
                         (
-                          (λ a l. head-tells sent sent-tells l.waiting l),
+                          (λ a number l. head-tells sent sent-tells l.waiting l),
                           (
-                            (λ a l. open-tells (failed a) (failed-tells a) l.opened l),
+                            (λ a number l. open-tells (failed a) (failed-tells a) number l),
                             tt,
                           ),
                         ),
@@ -120,11 +123,11 @@ rows_tell = (
   ),
 )
 
-pub row-tells : (a : Around) (number : ℕ) (l : Line) → map tells (row_effect a number l).told ≡ map tells l.told
-row-tells a number l = of (row_of number) refl where
-  of : (one : Option Row) → row_of number ≡ one → Tells l (effect_of one a l)
+pub row-tells : (a : Around) (number note : ℕ) (l : Line) → map tells (row_effect a number note l).told ≡ map tells l.told
+row-tells a number note l = of (row_of number) refl where
+  of : (one : Option Row) → row_of number ≡ one → Tells l (effect_of one a note l)
   of None q = refl
-  of (Some r) q = (find_gives RowTells (λ r. r.number == number) line_table r rows_tell q).0 a l
+  of (Some r) q = (find_gives RowTells (λ r. r.number == number) line_table r rows_tell q).0 a note l
 
 -- a new note, whatever its text is
 pub noted-tells : (kind : Kind) (id : ℕ) (told : List Told) → map tells (told ++ record { kind = kind; id = id; fate = Waiting } ∷ []) ≡ map tells told ++ (kind, id) ∷ []

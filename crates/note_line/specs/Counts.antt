@@ -1,11 +1,11 @@
 -- How many notes were answered and how many were dropped (this tool's profile, notes).
-use Rattle.std.specs.Prelude.{◌≡◌, ℕ, ◌+◌, Bool, true, false, List, length, is_some}
+use Rattle.std.specs.Prelude.{◌≡◌, ℕ, ◌+◌, Bool, true, false, List, length}
 use Rattle.std.specs.List.{count_by}
 use Rattle.note_line.specs.declared.fate.Told.{Told}
 use Rattle.note_line.specs.declared.fate.Fate.{Fate}
 use Rattle.note_line.specs.declared.fate.Fate.TheVariants.{Answered, Open, Waiting, Spooled, Dropped}
 use Rattle.note_line.specs.Line.{Line}
-use Rattle.note_line.specs.Fates.{LineValid, one_if}
+use Rattle.note_line.specs.Fates.{LineValid}
 
 -- it was answered
 abbrev pub is_answered : Fate → Bool
@@ -35,9 +35,9 @@ answered_count told = fates_count is_answered told
 abbrev pub dropped_count : List Told → ℕ
 dropped_count told = fates_count is_dropped told
 
--- how many notes haven't ended: the open one, those that are spooled and those that wait
+-- how many notes haven't ended: those that are open, those that are spooled and those that wait
 abbrev pub standing_count : Line → ℕ
-standing_count l = one_if (is_some l.opened) + length l.spool.notes + length l.waiting
+standing_count l = length l.opened + length l.spool.notes + length l.waiting
 
 -- what is always true of a line that is counted: it is valid, and so many of its notes were answered
 pub record IsCounted (l : Line) (answered : ℕ) : Type 0 where

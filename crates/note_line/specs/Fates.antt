@@ -1,14 +1,13 @@
 -- What became of each note that was made (this tool's profile, notes).
-use Rattle.std.specs.Prelude.{ℕ, ◌≡◌, ◌<◌, ◌≤◌, Bool, true, false, ◌==◌, if◌then◌else◌, List, Option, Some, None, option_map}
+use Rattle.std.specs.Prelude.{ℕ, ◌≡◌, ◌<◌, ◌≤◌, Bool, true, false, if◌then◌else◌, List, length, Option, Some, None, option_map}
 use Rattle.std.specs.List.{AllByRecursion, count_by}
-use Rattle.std.specs.Option.{option_to_list}
 use Rattle.spool.specs.declared.note.Note.{Note}
 use Rattle.spool.specs.declared.note.Kind.{Kind}
 use Rattle.note_line.specs.declared.fate.Told.{Told}
 use Rattle.note_line.specs.declared.fate.Fate.{Fate}
 use Rattle.note_line.specs.declared.fate.Fate.TheVariants.{Answered, Open, Waiting, Spooled, Dropped}
-use Rattle.note_line.specs.Line.{Line, next, standing, in_kind, told_of, fate_of}
-use Rattle.note_line.specs.Order.{InOrder}
+use Rattle.note_line.specs.Line.{Line, next, standing, is_number, in_kind, told_of, fate_of}
+use Rattle.note_line.specs.Order.{InOrder, OneByOne}
 
 -- ---- kinds of fate
 
@@ -54,10 +53,6 @@ tells one = (one.kind, one.id)
 abbrev pub what_of : ℕ → List Told → Option (Kind × ℕ)
 what_of number told = option_map tells (told_of number told)
 
--- a note of this number
-abbrev pub is_number : ℕ → Note → Bool
-is_number number note = note.number == number
-
 -- the fate passes this test
 abbrev pub passes : (Fate → Bool) → Option Fate → Bool
 passes test None = false
@@ -78,21 +73,26 @@ pub record IsTold (l : Line) (note : Note) : Type 0 where
   pub what : what_of note.number l.told ≡ Some (note.kind, note.id)
 
 -- Each note that hasn't ended is told of. Each number stands once among those that wait where its note waits, and else not
--- at all; and so among those that are spooled where its note is spooled; and it is that of the open note where its note is
--- open, and else not.
+-- at all; and so among those that are spooled where its note is spooled, and among those that are open where its note is open.
 pub record Fated (l : Line) : Type 0 where
   pub told : AllByRecursion (IsTold l) (standing l)
   pub waiting : (number : ℕ) → count_by (is_number number) l.waiting ≡ one_if (has_fate is_waiting number l.told)
   pub spooled : (number : ℕ) → count_by (is_number number) l.spool.notes ≡ one_if (has_fate is_spooled number l.told)
-  pub opened : (number : ℕ) → count_by (is_number number) (option_to_list l.opened) ≡ one_if (has_fate is_open number l.told)
+  pub opened : (number : ℕ) → count_by (is_number number) l.opened ≡ one_if (has_fate is_open number l.told)
 
 -- notes that are spooled are of the spooled kinds
 abbrev pub OfKinds : Line → Type 0
 OfKinds l = AllByRecursion (λ note. in_kind l.kinds note ≡ true) l.spool.notes
 
+-- no more notes are open than may be
+abbrev pub WithinWindow : Line → Type 0
+WithinWindow l = length l.opened ≤ l.window
+
 -- what is always true of the line
 pub record LineValid (l : Line) : Type 0 where
   pub in_order : InOrder l
+  pub one_by_one : OneByOne l
+  pub within : WithinWindow l
   pub fated : Fated l
   pub of_kinds : OfKinds l
 

@@ -10,7 +10,8 @@ line_of kept = record {
   told = kept.told.items;
   waiting = kept.waiting.items;
   spool = kept.spool;
-  opened = kept.opened;
+  opened = kept.opened.notes;
+  window = kept.opened.window;
   kinds = kept.kinds;
 }
 

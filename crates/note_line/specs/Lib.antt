@@ -1,9 +1,11 @@
 pub mod Line
 pub mod Table3
+pub mod Failing
 pub mod Left
 pub mod Order
 pub mod Fates
 pub mod Limits
+pub mod Opened
 pub mod Kept
 pub mod Worked
 pub mod Counts

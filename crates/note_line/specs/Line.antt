@@ -1,13 +1,10 @@
 -- The line of notes (after SEMI E30, event notification, alarm management and spooling; this tool's profile, notes).
 -- The way of a note is drawn over table 3.
-use Rattle.std.specs.Prelude.{ℕ, zero, suc, Bool, if◌then◌else◌, List, [], ◌∷◌, ◌++◌, length, Option, Some, None, slice_get, option_map}
-use Rattle.std.specs.Option.{option_to_list}
+use Rattle.std.specs.Prelude.{ℕ, zero, suc, Bool, ◌==◌, if◌then◌else◌, List, [], ◌∷◌, ◌++◌, length, find, Option, Some, None, slice_get, option_map}
 use Rattle.gem_tables.specs.Table.{update_at}
 use Rattle.spool.specs.declared.note.Note.{Note}
 use Rattle.spool.specs.declared.note.Kind.{Kind}
 use Rattle.spool.specs.declared.note.Kind.TheVariants.{Event, Alarm}
-use Rattle.spool.specs.declared.spool.Pushed.{Pushed}
-use Rattle.spool.specs.declared.spool.Pushed.TheVariants.{Kept, DroppedOldest, DroppedNewest}
 use Rattle.spool.specs.Spool as spool
 use Rattle.spool.specs.Table.{spool_fired}
 use Rattle.note_line.specs.declared.around.Around.{Around}
@@ -24,22 +21,33 @@ pub record Line : Type 0 where
   pub waiting : List Note
   -- the notes that are spooled, and the states of the spool
   pub spool : spool.Spool
-  -- the note that is open: it is sent, and its transaction hasn't ended
-  pub opened : Option Note
+  -- the notes that are open, in the order in which they were sent, the latest last: the transaction of each hasn't ended; and how many
+  -- may be
+  pub opened : List Note
+  pub window : ℕ
   -- the kinds of note that are spooled
   pub kinds : SpooledKinds
 
--- no note was made; the spool has room for so many, and notes of these kinds are spooled
-abbrev pub opening : ℕ → SpooledKinds → Line
-opening capacity kinds = record { told = []; waiting = []; spool = spool.opening capacity; opened = None; kinds = kinds }
+-- no note was made; the spool has room for so many, so many may be open, and notes of these kinds are spooled
+abbrev pub opening : ℕ → ℕ → SpooledKinds → Line
+opening capacity window kinds = record { told = []; waiting = []; spool = spool.opening capacity; opened = []; window = window; kinds = kinds }
 
 -- the number of the next note
 abbrev pub next : Line → ℕ
 next l = suc (length l.told)
 
--- the notes that haven't ended: the open one, then those that are spooled, then those that wait
+-- the notes that haven't ended: the open ones, then those that are spooled, then those that wait
 abbrev pub standing : Line → List Note
-standing l = option_to_list l.opened ++ (l.spool.notes ++ l.waiting)
+standing l = l.opened ++ (l.spool.notes ++ l.waiting)
+
+-- a note of this number
+abbrev pub is_number : ℕ → Note → Bool
+is_number number note = note.number == number
+
+-- all but the first of this number
+abbrev pub without : ℕ → List Note → List Note
+without number [] = []
+without number (note ∷ notes) = if is_number number note then notes else note ∷ without number notes
 
 -- notes of a kind are spooled
 abbrev pub is_spooled_kind : SpooledKinds → Kind → Bool
@@ -84,14 +92,18 @@ abbrev pub with_head : (Note → Line → Line) → List Note → Line → Line
 with_head act [] l = l
 with_head act (note ∷ notes) l = act note (record l { waiting = notes })
 
--- what is done with the open note, which is open no more
-abbrev pub with_open : (Note → Line → Line) → Option Note → Line → Line
-with_open act None l = l
-with_open act (Some note) l = act note (record l { opened = None })
+-- what is done with this note of a number, which is open no more
+abbrev pub with_one : (Note → Line → Line) → ℕ → Option Note → Line → Line
+with_one act number None l = l
+with_one act number (Some note) l = act note (record l { opened = without number l.opened })
+
+-- what is done with the open note of a number, where it is open
+abbrev pub with_open : (Note → Line → Line) → ℕ → Line → Line
+with_open act number l = with_one act number (find (is_number number) l.opened) l
 
 -- a note is sent, and is open
 abbrev pub sent : Note → Line → Line
-sent note l = fated Open note (record l { opened = Some note })
+sent note l = fated Open note (record l { opened = l.opened ++ note ∷ [] })
 
 -- ---- what the rows do
 
@@ -109,19 +121,13 @@ abbrev pub told_lost : Option Note → List Told → List Told
 told_lost None told = told
 told_lost (Some note) told = with_fate note.number (Dropped Full) told
 
--- the note that the spool tells of as lost, if it does
-abbrev pub lost_of : Pushed → Option Note
-lost_of Kept = None
-lost_of (DroppedOldest note) = Some note
-lost_of (DroppedNewest note) = Some note
-
 -- a note goes to the rear of the spool, by the rule of a full spool
 abbrev pub spooled : Bool → Note → Line → Line
 spooled overwrite note l =
     lost_is_dropped (spool.push_loses overwrite note l.spool)
     (fated Spooled note (record l { spool = spool.pushed overwrite note l.spool }))
 
--- a note goes back to the front of the spool, by the rule of a full spool
+-- a note goes back to its place by number in the spool, by the rule of a full spool
 abbrev pub returned : Bool → Note → Line → Line
 returned overwrite note l =
     lost_is_dropped (spool.put_back_loses overwrite note l.spool)
@@ -159,13 +165,13 @@ purge_oldest l = purge_oldest_of l.spool.notes l
 abbrev pub failed : Around → Note → Line → Line
 failed a note l = if in_kind l.kinds note then returned a.overwrites note l else fated (Dropped NoSpool) note l
 
--- the transaction of the open note fails: TRANSMIT becomes NO OUTPUT
-abbrev pub fail_open : Around → Line → Line
-fail_open a l = restated 14 (with_open (failed a) l.opened l)
+-- the transaction of the open note of a number fails: TRANSMIT becomes NO OUTPUT
+abbrev pub fail_open : Around → ℕ → Line → Line
+fail_open a number l = restated 14 (with_open (failed a) number l)
 
--- the open note is answered
-abbrev pub answered : Line → Line
-answered l = with_open (fated Answered) l.opened l
+-- the open note of a number is answered
+abbrev pub answered : ℕ → Line → Line
+answered number l = with_open (fated Answered) number l
 
 -- ---- the host
 

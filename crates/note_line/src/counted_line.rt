@@ -1,11 +1,11 @@
 //! The line of notes, counted.
 
-ghost use Rattle.std.specs.Prelude.{◌≡◌, ◌≤◌, ◌+◌, true, length, None, Some, IfOk, IfErr, if◌then◌else◌, is_some};
+ghost use Rattle.std.specs.Prelude.{◌≡◌, ◌≤◌, ◌+◌, true, length, Some, IfOk, IfErr};
 ghost use Rattle.spool.specs.Limits.{most_capacity};
 ghost use Rattle.spool.specs.Spool.{rsda};
 ghost use Rattle.note_line.specs.Line.{opening, noted, restated, spool_head, drop_head, open_head, open_oldest, purge_oldest, fail_open, answered, with_kinds, begun};
-ghost use Rattle.note_line.specs.Table3.{least, head_in_kind};
-ghost use Rattle.note_line.specs.Limits.{most_text};
+ghost use Rattle.note_line.specs.Table3.{least, head_in_kind, may_open};
+ghost use Rattle.note_line.specs.Limits.{most_open, most_text};
 ghost use Rattle.note_line.specs.Counts.{answered_count, dropped_count};
 
 use crate::{Around, Kind, NoteLine, SpooledKinds};
@@ -33,24 +33,31 @@ impl Model for CountedLine {
 }
 
 /// What is left of the notes that were made, without these.
-fn left_without(made: u64, answered: u64, one_open: bool, spooled: u64, waiting: u64) -> u64
-    requires { answered + (if one_open then 1 else 0) + spooled + waiting ≤ made }
-    ensures { result + (answered + (if one_open then 1 else 0) + spooled + waiting) ≡ made }
+fn left_without(made: u64, answered: u64, opened: u64, spooled: u64, waiting: u64) -> u64
+    requires { answered + opened + spooled + waiting ≤ made }
+    ensures { result + (answered + opened + spooled + waiting) ≡ made }
 {
-    made - answered - u64::from(one_open) - spooled - waiting
+    made - answered - opened - spooled - waiting
 }
 
 impl CountedLine {
-    /// No note was made; the spool has room for so many notes, 1 to 65,536, and notes of these kinds are spooled.
-    /// `AllocError`: there is no room for the spool.
+    /// No note was made; the spool has room for so many notes, 1 to 65,536, so many may be open, 1 to 8, and notes of these kinds
+    /// are spooled. `AllocError`: there is no room for the spool, or for the open notes.
     #[tactic(auto, using(crate::proofs::Counting::counted_opening))]
-    pub fn new(alloc: Global, capacity: u32, kinds: SpooledKinds) -> Result<CountedLine, AllocError>
+    pub fn new(
+        alloc: Global,
+        capacity: u32,
+        window: u8,
+        kinds: SpooledKinds,
+    ) -> Result<CountedLine, AllocError>
         requires some_room { 1 ≤ capacity }
         requires limit { capacity ≤ most_capacity }
-        ensures { IfOk result (λ line. line ≡ opening capacity kinds) }
+        requires some_open { 1 ≤ window }
+        requires most_open { window ≤ most_open }
+        ensures { IfOk result (λ line. line ≡ opening capacity window kinds) }
     {
         Ok(CountedLine {
-            line: NoteLine::new(alloc, capacity, kinds)?,
+            line: NoteLine::new(alloc, capacity, window, kinds)?,
             answered: 0,
         })
     }
@@ -78,26 +85,19 @@ impl CountedLine {
         self.answered
     }
 
-    /// Whether a note is open.
-    fn has_open(&self) -> bool
-        ensures { result ≡ is_some self.now.opened }
-    {
-        self.line.open_note().is_some()
-    }
-
     /// How many notes were dropped, for whatever cause: all that were made but those that were answered, and those that haven't
     /// ended. Takes time for no note.
     pub fn dropped_count(&self) -> u64
         ensures { result ≡ dropped_count self.now.told }
     {
         let made = self.note_count();
-        let one_open = self.has_open();
+        let opened = self.line.open_len();
         let spooled = self.line.spooled_len();
         let waiting = self.line.waiting_len();
         left_without(
             made,
             self.answered,
-            one_open,
+            opened as u64,
             spooled as u64,
             waiting as u64,
         )
@@ -150,9 +150,9 @@ impl CountedLine {
         self.line.drop_head();
     }
 
-    /// Row 12: the oldest spooled note is sent, and is open. Its condition is that no other note is open.
+    /// Row 12: the oldest spooled note is sent, and is open. Its condition is that fewer notes are open than may be.
     pub fn open_oldest(&mut self)
-        requires { self.old.opened ≡ None }
+        requires { may_open self.old ≡ true }
         ensures { self.new ≡ open_oldest self.old }
     {
         self.line.open_oldest();
@@ -166,22 +166,22 @@ impl CountedLine {
         self.line.open_head(around);
     }
 
-    /// Row 14: the transaction of the open note has failed, as `NoteLine::fail_open` says.
-    pub fn fail_open(&mut self, around: Around)
-        ensures { self.new ≡ fail_open around self.old }
+    /// Row 14: the transaction of the open note of a number has failed, as `NoteLine::fail_open` says.
+    pub fn fail_open(&mut self, number: u64, around: Around)
+        ensures { self.new ≡ fail_open around number self.old }
     {
-        self.line.fail_open(around);
+        self.line.fail_open(number, around);
     }
 
-    /// The open note is answered, and counted, where one is open.
-    pub fn answer_open(&mut self)
-        ensures { self.new ≡ answered self.old }
+    /// The open note of a number is answered, and counted, where it is open.
+    pub fn answer_open(&mut self, number: u64)
+        ensures { self.new ≡ answered number self.old }
     {
         // No more were answered than were made.
         let next = self.line.next_number();
         prove!(self.answered < next);
-        if self.has_open() {
-            self.line.answer_open();
+        if self.line.has_open(number) {
+            self.line.answer_open(number);
             self.answered += 1;
         }
     }

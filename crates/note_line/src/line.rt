@@ -1,17 +1,20 @@
 //! The line of notes as a record.
 
-ghost use Rattle.std.specs.Prelude.{◌≡◌, ◌≤◌, true, length, slice_get, option_copied, not, ◌&&◌, None, Some, IfOk, IfErr, IfSome, IsTrue};
+ghost use Rattle.std.specs.Prelude.{◌≡◌, ◌≤◌, true, length, slice_get, option_copied, ◌&&◌, None, Some, IfOk, IfErr, IfSome, IsTrue};
 ghost use Rattle.spool.specs.Limits.{most_capacity};
 ghost use Rattle.spool.specs.Spool.{rsda, is_transmit, has_note};
 ghost use Rattle.note_line.specs.Line.{opening, next, noted, restated, spool_head, drop_head, open_head, open_oldest, purge_oldest, fail_open, answered, with_kinds, begun, fate_of};
-ghost use Rattle.note_line.specs.Table3.{least, none_waits, rests, head_in_kind, head_not_in_kind, head_may_go, has_open};
+ghost use Rattle.note_line.specs.Table3.{least, none_waits, rests, head_in_kind, head_not_in_kind, head_may_go, has_open, may_open};
 ghost use Rattle.note_line.specs.declared.around.Around.{Around};
 ghost use Rattle.note_line.specs.Fates.{LineValid};
-ghost use Rattle.note_line.specs.Limits.{most_text};
+ghost use Rattle.note_line.specs.Failing.{failing};
+ghost use Rattle.note_line.specs.Limits.{most_open, most_text};
 
 use crate::around::{Around, SpooledKinds};
 use crate::fate::{DropCause, Fate, Told};
+use crate::open_notes::{MOST_OPEN, OpenNotes};
 use crate::told::{return_note, set_fate, spool_note};
+use arrayvec::ArrayVec;
 use hsms_frame::Bytes;
 use spool::{Kind, Load, Note, Spool, Unload};
 use std::alloc::{AllocError, Global};
@@ -21,13 +24,13 @@ use std::marker::Model;
 // What becomes of a note that can't be sent, or whose transaction fails, where its kind isn't spooled.
 const NOT_SPOOLED: Fate = Fate::Dropped(DropCause::NoSpool);
 
-/// The line of notes, which contracts see as the notes that wait, those that are spooled with the states of the spool, the
-/// open one, and what became of each that was made. Only `new` and `add` take memory.
+/// The line of notes, which contracts see as the notes that wait, those that are spooled with the states of the spool, those that
+/// are open, and what became of each that was made. Only `new` and `add` take memory.
 pub struct NoteLine {
     told: Vec<Told>,
     waiting: VecDeque<Note>,
     spool: Spool,
-    opened: Option<Note>,
+    opened: OpenNotes,
     kinds: SpooledKinds,
 }
 
@@ -57,18 +60,25 @@ impl Model for NoteLine {
 }
 
 impl NoteLine {
-    /// No note was made; the spool has room for so many notes, 1 to 65,536, and notes of these kinds are spooled.
-    /// `AllocError`: there is no room for the spool.
-    pub fn new(alloc: Global, capacity: u32, kinds: SpooledKinds) -> Result<NoteLine, AllocError>
+    /// No note was made; the spool has room for so many notes, 1 to 65,536, so many may be open, 1 to 8, and notes of these kinds
+    /// are spooled. `AllocError`: there is no room for the spool, or for the open notes.
+    pub fn new(
+        alloc: Global,
+        capacity: u32,
+        window: u8,
+        kinds: SpooledKinds,
+    ) -> Result<NoteLine, AllocError>
         requires some_room { 1 ≤ capacity }
         requires limit { capacity ≤ most_capacity }
-        ensures { IfOk result (λ line. line ≡ opening capacity kinds) }
+        requires some_open { 1 ≤ window }
+        requires most_open { window ≤ most_open }
+        ensures { IfOk result (λ line. line ≡ opening capacity window kinds) }
     {
         Ok(NoteLine {
             told: Vec::new(alloc),
             waiting: VecDeque::new(alloc),
             spool: Spool::new(alloc, capacity)?,
-            opened: None,
+            opened: OpenNotes::new(alloc, window)?,
             kinds,
         })
     }
@@ -179,13 +189,33 @@ impl NoteLine {
         }
     }
 
-    /// The note that is sent and whose transaction is open.
-    pub fn open_note(&self) -> Option<&Note>
-        ensures note { option_copied result ≡ self.now.opened }
-        ensures short { IfSome result (λ note. length note.now.text ≤ most_text) }
+    /// How many notes are open: each is sent, and its transaction hasn't ended.
+    pub fn open_len(&self) -> usize
+        ensures len { result ≡ length self.now.opened }
         ensures valid { LineValid self.now }
     {
-        self.opened.as_ref()
+        self.opened.len()
+    }
+
+    /// Whether the note of a number is open.
+    pub fn has_open(&self, number: u64) -> bool
+        ensures { result ≡ has_open number self.now }
+    {
+        self.opened.numbered(number).is_some()
+    }
+
+    /// The numbers of the open notes in the order in which they fail where every transaction does: the greatest first.
+    pub fn failing(&self) -> ArrayVec<u64, MOST_OPEN>
+        ensures { result.items ≡ failing self.now }
+    {
+        self.opened.failing()
+    }
+
+    /// Whether one more note may be open.
+    pub fn may_open(&self) -> bool
+        ensures { result ≡ may_open self.now }
+    {
+        self.opened.has_room()
     }
 
     /// What became of the note of a number; `None` exactly where the number wasn't given.
@@ -234,12 +264,12 @@ impl NoteLine {
 
     // Whether the oldest spooled note is to be sent, and can be.
     fn oldest_may_go(&self, around: Around) -> bool
-        ensures { result ≡ (is_transmit self.now.spool.unload && has_note self.now.spool && around.communicates && not (has_open self.now)) }
+        ensures { result ≡ (is_transmit self.now.spool.unload && has_note self.now.spool && around.communicates && may_open self.now) }
     {
         self.spool.is_transmit()
             && self.spool.has_note()
             && around.communicates
-            && self.opened.is_none()
+            && self.opened.has_room()
     }
 
     // Whether no note waits.
@@ -269,7 +299,7 @@ impl NoteLine {
     pub fn row_for(&self, around: Around) -> Option<u8>
         ensures least { result ≡ least around self.now }
         ensures in_kind { result ≡ Some 10 → head_in_kind self.now ≡ true }
-        ensures none_open { result ≡ Some 12 → self.now.opened ≡ None }
+        ensures may_open { result ≡ Some 12 → may_open self.now ≡ true }
     {
         if self.spool.starts(1) {
             Some(1)
@@ -291,7 +321,7 @@ impl NoteLine {
             Some(11)
         } else if self.oldest_may_go(around) {
             Some(12)
-        } else if self.head_may_go() && around.communicates && self.opened.is_none() {
+        } else if self.head_may_go() && around.communicates && self.opened.has_room() {
             Some(13)
         } else {
             None
@@ -339,9 +369,9 @@ impl NoteLine {
         }
     }
 
-    /// Row 12: the oldest spooled note is sent, and is open. Its condition is that no other note is open.
+    /// Row 12: the oldest spooled note is sent, and is open. Its condition is that fewer notes are open than may be.
     pub fn open_oldest(&mut self)
-        requires { self.old.opened ≡ None }
+        requires { may_open self.old ≡ true }
         ensures { self.new ≡ open_oldest self.old }
     {
         if !self.spool.has_note() {
@@ -349,7 +379,7 @@ impl NoteLine {
         }
         if let Some(oldest) = self.spool.next() {
             let number = oldest.number;
-            self.opened = Some(oldest);
+            self.opened.push(oldest);
             set_fate(&mut self.told, number, Fate::Open);
         }
     }
@@ -359,19 +389,19 @@ impl NoteLine {
         requires { least around self.old ≡ Some 13 }
         ensures { self.new ≡ open_head self.old }
     {
-        if let Some(oldest) = self.waiting.pop_front() {
-            let number = oldest.number;
-            self.opened = Some(oldest);
+        if let Some(head) = self.waiting.pop_front() {
+            let number = head.number;
+            self.opened.push(head);
             set_fate(&mut self.told, number, Fate::Open);
         }
     }
 
-    /// Row 14: the transaction of the open note has failed. TRANSMIT becomes NO OUTPUT, and the note goes back to the
-    /// spool where its kind is spooled, and is dropped otherwise.
-    pub fn fail_open(&mut self, around: Around)
-        ensures { self.new ≡ fail_open around self.old }
+    /// Row 14: the transaction of the open note of a number has failed. TRANSMIT becomes NO OUTPUT, and the note goes back to its
+    /// place by number in the spool where its kind is spooled, and is dropped otherwise.
+    pub fn fail_open(&mut self, number: u64, around: Around)
+        ensures { self.new ≡ fail_open around number self.old }
     {
-        if let Some(failed) = self.opened.take() {
+        if let Some(failed) = self.opened.take(number) {
             if self.kinds.has(failed.kind) {
                 return_note(&mut self.told, &mut self.spool, failed, around.overwrites);
             } else {
@@ -381,11 +411,11 @@ impl NoteLine {
         self.spool.fire(14);
     }
 
-    /// The open note is answered.
-    pub fn answer_open(&mut self)
-        ensures { self.new ≡ answered self.old }
+    /// The open note of a number is answered.
+    pub fn answer_open(&mut self, number: u64)
+        ensures { self.new ≡ answered number self.old }
     {
-        if let Some(answered) = self.opened.take() {
+        if let Some(answered) = self.opened.take(number) {
             set_fate(&mut self.told, answered.number, Fate::Answered);
         }
     }

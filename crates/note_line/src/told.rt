@@ -1,9 +1,10 @@
 //! What becomes of the notes, as it is kept while they go to the spool and back.
 
-ghost use Rattle.std.specs.Prelude.{◌≡◌};
-ghost use Rattle.spool.specs.Spool.{pushed, push_loses, put_back, put_back_loses};
+ghost use Rattle.std.specs.Prelude.{◌≡◌, true};
+ghost use Rattle.spool.specs.ByNumber.{may_put_back};
+ghost use Rattle.spool.specs.Spool.{pushed, push_loses, put_back, put_back_loses, lost_of};
 ghost use Rattle.note_line.specs.declared.fate.Fate.TheVariants.{Spooled};
-ghost use Rattle.note_line.specs.Line.{with_fate, told_lost, lost_of};
+ghost use Rattle.note_line.specs.Line.{with_fate, told_lost};
 
 use crate::fate::{DropCause, Fate, Told};
 use spool::{Note, Pushed, Spool};
@@ -39,9 +40,10 @@ pub fn spool_note(told: &mut Vec<Told>, spool: &mut Spool, note: Note, overwrite
     drop_lost(told, pushed);
 }
 
-/// A note goes back to the front of the spool, by the rule of a full spool: it is spooled, and the one that is lost is
+/// A note goes back to its place by number in the spool, by the rule of a full spool: it is spooled, and the one that is lost is
 /// dropped.
 pub fn return_note(told: &mut Vec<Told>, spool: &mut Spool, note: Note, overwrites: bool)
+    requires { may_put_back note.number spool.old.notes ≡ true }
     ensures spool { spool.new ≡ put_back overwrites note spool.old }
     ensures told { told.new.items ≡ told_lost (put_back_loses overwrites note spool.old) (with_fate note.number Spooled told.old.items) }
 {

@@ -8,7 +8,7 @@ ghost use Rattle.notes_lines.specs.Printed.{taken_line, listed};
 use crate::stop::Stop;
 use notes_lines::print_note;
 use outside::{Sink, write_all};
-use spool_format::NoteQueue;
+use spool::NoteQueue;
 use std::alloc::{AllocError, Global};
 
 /// The line of the oldest note, or of none.

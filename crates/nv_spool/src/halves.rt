@@ -10,7 +10,8 @@ ghost use Rattle.spool_format.specs.Runs.{WritesOnly, LeavesOnly};
 
 use outside::{Disk, Failed};
 use spool::Note;
-use spool_format::{NoteQueue, half_start, push_front};
+use spool::NoteQueue;
+use spool_format::{half_start, push_front};
 
 // Writes a push of a note, with an open gate. It is a write of the whole record in pieces.
 pub(crate) fn write_note<D: Disk>(disk: &mut D, at: u64, note: &Note) -> Result<(), Failed>

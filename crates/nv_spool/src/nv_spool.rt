@@ -7,7 +7,7 @@ ghost use Rattle.nv_spool.specs.Writing.{BeforeOrAfter};
 ghost use Rattle.outside.specs.Counts.{Rose};
 ghost use Rattle.outside.specs.Disk.{Each};
 ghost use Rattle.spool_format.specs.Faults.{Told};
-ghost use Rattle.spool_format.specs.ByNumber.{may_put_back, placed};
+ghost use Rattle.spool.specs.ByNumber.{may_put_back, placed};
 ghost use Rattle.spool_format.specs.Format.{Fits, IsSize, changed, StandsFor};
 ghost use Rattle.spool_format.specs.Runs.{LeavesOnly, Quiet};
 ghost use Rattle.spool_format.specs.Unread.{IsUnread};
@@ -16,9 +16,9 @@ ghost use Rattle.spool_format.specs.declared.change.Change.TheVariants.{Push, Pu
 use crate::formatting::format_disk;
 use crate::putting::put_change;
 use outside::{Disk, Failed};
-use spool::{Note, Pushed};
+use spool::{Note, NoteQueue, Pushed};
 use spool_format::{
-    ByBlocks, NoteQueue, NvFault, Place, push_text, put_back_text, read_spool, take_text,
+    ByBlocks, NvFault, Place, push_text, put_back_text, read_spool, take_text,
 };
 use std::alloc::{AllocError, Global};
 use std::marker::Model;

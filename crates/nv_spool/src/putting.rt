@@ -12,7 +12,8 @@ ghost use Rattle.spool_format.specs.declared.change.Change.{Change};
 use crate::appending::append;
 use crate::halves::compact;
 use outside::{Disk, Failed};
-use spool_format::{NoteQueue, Place, half_start};
+use spool::NoteQueue;
+use spool_format::{Place, half_start};
 
 // Makes room for so many bytes behind the gate. A crash at any moment leaves the same notes.
 fn make_room<D: Disk>(

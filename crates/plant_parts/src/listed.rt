@@ -17,11 +17,11 @@ pub fn by_comm(trigger: CommTrigger) -> Firing
     Firing::of(Table::Communication, 0, trigger.row())
 }
 
-/// The row by which the transaction of the open note fails.
-pub fn note_fails() -> Firing
-    ensures { note_fails ≡ result ∷ [] }
+/// The row by which the transaction of the open note of a number fails.
+pub fn note_fails(number: u64) -> Firing
+    ensures { note_fails number ≡ result ∷ [] }
 {
-    Firing::of(Table::Line, 0, 14)
+    Firing::of(Table::Line, number, 14)
 }
 
 /// The row of RSDC: 0 lets the spooled notes be sent, and any other drops them (SEMI E5, S6F23).

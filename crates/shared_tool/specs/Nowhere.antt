@@ -34,6 +34,7 @@ no_config = record {
   start_moment = record { 0 = 0 };
   recipes = [];
   tcp_port = 0;
+  window = 0;
 }
 
 abbrev pub no_core : CoreView

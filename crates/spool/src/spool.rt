@@ -1,13 +1,14 @@
 //! The spool as a record.
 
-ghost use Rattle.std.specs.Prelude.{◌≡◌, ◌≤◌, true, false, length, slice_get, option_copied, IfOk};
+ghost use Rattle.std.specs.Prelude.{◌≡◌, ◌≤◌, true, length, slice_get, option_copied, IfOk};
+ghost use Rattle.spool.specs.ByNumber.{may_put_back};
 ghost use Rattle.spool.specs.Limits.{most_capacity};
-ghost use Rattle.spool.specs.Spool.{opening, pushed, push_loses, put_back, put_back_loses, told_as, sent, purged, counted, one_less, budget_of, rsda, begun, is_inactive, is_not_full, is_full, is_active, is_transmit, is_purge, has_note, is_at_capacity, has_room, is_used_up};
+ghost use Rattle.spool.specs.Spool.{opening, pushed, push_loses, put_back, put_back_loses, told_as, lost_of, is_kept, sent, purged, counted, one_less, budget_of, rsda, begun, is_inactive, is_not_full, is_full, is_active, is_transmit, is_purge, has_note, is_at_capacity, has_room, is_used_up};
 ghost use Rattle.spool.specs.Table.{spool_starts, spool_fired};
 
 use crate::note::Note;
+use crate::queue::NoteQueue;
 use crate::states::{Load, Unload};
-use circular_buffer::HeapCircularBuffer;
 use std::alloc::{AllocError, Global};
 use std::marker::Model;
 
@@ -24,7 +25,7 @@ pub enum Pushed {
 /// of its filling and emptying, the budget, and the count of the notes that came in. Only `new` takes memory.
 #[derive(Drop)]
 pub struct Spool {
-    notes: HeapCircularBuffer<Note>,
+    notes: NoteQueue,
     load: Load,
     unload: Unload,
     // How many notes the present TRANSMIT may still send, where it has a limit.
@@ -53,9 +54,8 @@ impl Spool {
         requires limit { capacity ≤ most_capacity }
         ensures { IfOk result (λ spool. spool ≡ opening capacity) }
     {
-        let notes = HeapCircularBuffer::with_capacity(alloc, capacity as usize)?;
         Ok(Spool {
-            notes,
+            notes: NoteQueue::new(alloc, capacity)?,
             load: Load::Inactive,
             unload: Unload::NoOutput,
             budget: None,
@@ -88,7 +88,7 @@ impl Spool {
     pub fn oldest(&self) -> Option<&Note>
         ensures { option_copied result ≡ slice_get self.now.notes 0 }
     {
-        self.notes.front()
+        self.notes.oldest()
     }
 
     /// The state of the filling.
@@ -218,24 +218,27 @@ impl Spool {
         ensures after { self.new ≡ pushed overwrite note self.old }
         ensures dropped { result ≡ told_as overwrite (push_loses overwrite note self.old) }
     {
-        if !self.has_room() && !overwrite {
-            return Pushed::DroppedNewest(note);
+        if self.has_room() || overwrite {
+            self.count();
         }
-        self.count();
-        oldest_gone(self.notes.push_back(note))
+        self.notes.push(note, overwrite)
     }
 
-    /// A note is put back before the others. Where the spool is full, the one that is put back is dropped with `overwrite`,
-    /// else the newest.
+    /// A note is put back to its place by number: before the first that has a greater one. Its condition is that the numbers
+    /// of the notes rise, and its own is another. Where the spool is full, one of all these is dropped: the one of the least
+    /// number with `overwrite`, else the one of the greatest.
+    #[tactic(auto, using(crate::proofs::Lost::lost_is_told))]
     pub fn put_back(&mut self, note: Note, overwrite: bool) -> Pushed
+        requires place { may_put_back note.number self.old.notes ≡ true }
         ensures after { self.new ≡ put_back overwrite note self.old }
         ensures dropped { result ≡ told_as overwrite (put_back_loses overwrite note self.old) }
     {
-        if !self.has_room() && overwrite {
-            return Pushed::DroppedOldest(note);
+        let number = note.number;
+        let pushed = self.notes.put_back(note, overwrite);
+        if is_kept(&pushed, number) {
+            self.count();
         }
-        self.count();
-        newest_gone(self.notes.push_front(note))
+        pushed
     }
 
     /// The oldest note leaves, to be sent, by one of a limited budget.
@@ -243,7 +246,7 @@ impl Spool {
         ensures taken { result ≡ slice_get self.old.notes 0 }
         ensures after { self.new ≡ sent self.old }
     {
-        let oldest = self.notes.pop_front();
+        let oldest = self.notes.take();
         self.budget = one_less(self.budget);
         oldest
     }
@@ -253,7 +256,7 @@ impl Spool {
         ensures taken { result ≡ slice_get self.old.notes 0 }
         ensures after { self.new ≡ purged self.old }
     {
-        self.notes.pop_front()
+        self.notes.take()
     }
 
     // ---- its states
@@ -321,23 +324,13 @@ impl Spool {
     }
 }
 
-// What went is the oldest note.
-fn oldest_gone(gone: Option<Note>) -> Pushed
-    ensures { result ≡ told_as true gone }
+// Whether the note of this number was kept: it isn't the one that was dropped.
+fn is_kept(pushed: &Pushed, number: u64) -> bool
+    ensures { result ≡ is_kept number (lost_of pushed.now) }
 {
-    match gone {
-        None => Pushed::Kept,
-        Some(note) => Pushed::DroppedOldest(note),
-    }
-}
-
-// What went is the newest note.
-fn newest_gone(gone: Option<Note>) -> Pushed
-    ensures { result ≡ told_as false gone }
-{
-    match gone {
-        None => Pushed::Kept,
-        Some(note) => Pushed::DroppedNewest(note),
+    match pushed {
+        Pushed::Kept => true,
+        Pushed::DroppedOldest(note) | Pushed::DroppedNewest(note) => note.number != number,
     }
 }
 

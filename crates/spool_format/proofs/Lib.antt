@@ -5,7 +5,6 @@ pub mod Heads
 pub mod Moments
 pub mod OnePlace
 pub mod Pieces
-pub mod PutBack
 pub mod Refusing
 pub mod Replayed
 pub mod Spelled

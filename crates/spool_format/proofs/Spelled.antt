@@ -11,7 +11,7 @@ use Rattle.spool_format.specs.Items.{change_size, noted}
 use Rattle.spool_format.specs.Unread.{HasNote}
 use Rattle.spool_format.specs.declared.change.Change.{Change}
 use Rattle.spool_format.specs.declared.change.Change.TheVariants.{Push, PutBack, Take}
-use Rattle.spool_format.specs.ByNumber.{placed}
+use Rattle.spool.specs.ByNumber.{placed}
 
 pub spelled-append : (rs qs : List Record) → spelled (rs ++ qs) ≡ spelled rs ++ spelled qs
 spelled-append [] qs = refl

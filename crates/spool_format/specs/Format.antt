@@ -9,7 +9,7 @@ use Rattle.spool.specs.Full.{fitted}
 use Rattle.spool.specs.Limits.{most_capacity}
 use Rattle.spool_format.specs.declared.change.Change.{Change}
 use Rattle.spool_format.specs.declared.change.Change.TheVariants.{Push, PutBack, Take}
-use Rattle.spool_format.specs.ByNumber.{may_put_back, placed}
+use Rattle.spool.specs.ByNumber.{may_put_back, placed}
 use Rattle.outside.specs.Disk.{HasAt, Each}
 
 -- ---- changes

@@ -1,9 +1,7 @@
 pub mod Blocks
-pub mod ByNumber
 pub mod Faults
 pub mod Format
 pub mod Items
 pub mod Place
-pub mod Queue
 pub mod Runs
 pub mod Unread

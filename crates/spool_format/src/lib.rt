@@ -13,7 +13,6 @@ mod fault;
 mod laws;
 mod opening;
 mod place;
-mod queue;
 mod reading;
 mod records;
 
@@ -25,5 +24,4 @@ pub use laws::{
 };
 pub use opening::read_spool;
 pub use place::{Place, half_start, is_capacity, is_half, is_size};
-pub use queue::NoteQueue;
 pub use records::{push_front, push_text, put_back_text, take_text};

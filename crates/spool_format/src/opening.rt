@@ -14,10 +14,9 @@ ghost use Rattle.spool_format.specs.Unread.{HasNote, NoRecord, NoneBehind, NoCha
 use crate::change::Change;
 use crate::fault::NvFault;
 use crate::place::{Place, half_start, is_capacity, is_half};
-use crate::queue::NoteQueue;
 use crate::reading::{byte_at, flag_at, note_at, u32_at, u64_at};
 use outside::Disk;
-use spool::Note;
+use spool::{Note, NoteQueue};
 use std::alloc::Global;
 
 // Whether a record of this operation has a note.

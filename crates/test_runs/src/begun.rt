@@ -1,5 +1,6 @@
 //! How a core begins: `to a core, communicating, with 3 entries and 5 bytes` has a history of so many entries and bytes of
-//! text at most, and `to a core, communicating, with a spool of two notes` one of 100 entries and 1,000 bytes.
+//! text at most, and `to a core, communicating, with a spool of two notes`, or `with a window of two notes`, one of 100 entries and
+//! 1,000 bytes.
 
 use crate::tool::Tools;
 use std::alloc::Global;
@@ -7,6 +8,10 @@ use std::alloc::Global;
 // A spool of two notes of events, of which a request of the host gives one.
 const SMALL_SPOOL: &str =
     "communication = \"communicating\"\nmax_entries = 100\nmax_bytes = 1000\nspool_capacity = 2\nspool_streams = [6]\nmax_transmit = 1\n";
+
+// Two notes may be open at once, and the spool has room for one note of an event.
+const SMALL_WINDOW: &str =
+    "communication = \"communicating\"\nversion = 2\nmax_entries = 100\nmax_bytes = 1000\nspool_capacity = 1\nspool_streams = [6]\nwindow = 2\n";
 
 // The bounds of a history, as `3 entries and 5 bytes`.
 fn bounds(text: &str) -> Option<(&str, &str)> {
@@ -32,11 +37,12 @@ pub(crate) fn opened<O: Tools>(tools: &O, alloc: Global, begins: &str) -> Option
     let Some(history) = begins.strip_prefix("to a core, communicating, with ") else {
         return None;
     };
-    if history == "a spool of two notes" {
-        return tools.opened(alloc, SMALL_SPOOL);
-    }
-    match bounds(history) {
-        Some((entries, bytes)) => bounded(tools, alloc, entries, bytes),
-        None => None,
+    match history {
+        "a spool of two notes" => tools.opened(alloc, SMALL_SPOOL),
+        "a window of two notes" => tools.opened(alloc, SMALL_WINDOW),
+        history => match bounds(history) {
+            Some((entries, bytes)) => bounded(tools, alloc, entries, bytes),
+            None => None,
+        },
     }
 }

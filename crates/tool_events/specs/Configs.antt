@@ -47,3 +47,5 @@ pub record IsConfig (c : Config) : Type 0 where
   pub bytes : c.max_bytes ≤ 536870912
   pub start : c.start_moment.0 ≤ last_moment
   pub recipes : are_usable c.chambers c.recipes ≡ true
+  pub window_some : 1 ≤ c.window
+  pub window : c.window ≤ 8

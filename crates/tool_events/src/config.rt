@@ -34,7 +34,7 @@ pub struct SpoolStreams {
 /// which the host may change.
 #[derive(Clone, Copy)]
 pub struct Config {
-    /// The version of the configuration's keys, 1.
+    /// The version of the configuration's keys, 1 or 2.
     pub version: u8,
     /// The session id of the tool's messages, at most 32,767.
     pub device: u16,
@@ -82,4 +82,6 @@ pub struct Config {
     pub recipes: Recipes,
     /// The port of TCP on which a tool that serves links listens, at least 1 (SEMI E37, connection).
     pub tcp_port: u16,
+    /// How many notes may be open at once, 1 to 8; 1 in version 1.
+    pub window: u8,
 }

@@ -8,10 +8,10 @@ pub returns-clause-by_itself : goal.returns-clause-by_itself
 returns-clause-by_itself c = λ t l row e v. (least-keeps t l row e v).fates
 
 pub returns-clause-by_an_input : goal.returns-clause-by_an_input
-returns-clause-by_an_input c = λ t l row d s v. (direct-keeps t l row d s v).fates
+returns-clause-by_an_input c = λ t l row note d s v. (direct-keeps t l row note d s v).fates
 
 pub returns-clause-answered : goal.returns-clause-answered
-returns-clause-answered c = λ l v. (answered-keeps l v).fates
+returns-clause-answered c = λ number l v. (answered-keeps number l v).fates
 
 pub returns-clause-nothing : goal.returns-clause-nothing
 returns-clause-nothing c = fates-same

@@ -11,10 +11,10 @@ pub returns-clause-by_itself : goal.returns-clause-by_itself
 returns-clause-by_itself c = λ t l row e v. (least-keeps t l row e v).valid
 
 pub returns-clause-by_an_input : goal.returns-clause-by_an_input
-returns-clause-by_an_input c = λ t l row d s v. (direct-keeps t l row d s v).valid
+returns-clause-by_an_input c = λ t l row note d s v. (direct-keeps t l row note d s v).valid
 
 pub returns-clause-answered : goal.returns-clause-answered
-returns-clause-answered c = λ l v. (answered-keeps l v).valid
+returns-clause-answered c = λ number l v. (answered-keeps number l v).valid
 
 pub returns-clause-kinds : goal.returns-clause-kinds
 returns-clause-kinds c = λ kinds l v. (kinds-keeps kinds l v).valid

@@ -83,7 +83,7 @@ returns-clause-given c =
                                               rs,
                                               (
                                                 c.number-tcp_port.ensures.value,
-                                                tt,
+                                                (c.number-window.ensures.value, tt),
                                               ),
                                             ),
                                           ),
@@ -140,3 +140,6 @@ returns-clause-broken c =
     (after c.number-device.ensures.broken
     (after c.number-version.ensures.broken
     refl))))))))))))))))))))))
+
+pub returns-clause-last : goal.returns-clause-last
+returns-clause-last c = after c.number-window.ensures.broken refl

@@ -1,6 +1,5 @@
-use Rattle.std.proofs.Common.{length, is_some, ap, arith}
+use Rattle.std.proofs.Common.{length, ap, arith}
 use Rattle.note_line.specs.Line.{Line}
-use Rattle.note_line.specs.Fates.{one_if}
 use Rattle.note_line.specs.Counts.{dropped_count}
 use Rattle.note_line.proofs.CountedStanding.{all_counted}
 use Rattle.note_line.proofs.counted_line.CountedLine.dropped_count.Goals as goal
@@ -9,15 +8,13 @@ pub left_without-requires : goal.left_without-requires
 left_without-requires c =
     let all = all_counted c.self.inside.line c.self.inside.answered c.self.invariant in
     let told = ap (λ (l : Line). length l.told) c.self.view_is in
-    let opened = ap (λ (l : Line). one_if (is_some l.opened)) c.self.view_is in
-    let one = ap one_if c.has_open-one_open.ensures in
-    omega (arith, all, told, opened, one, c.note_count-made.ensures, c.spooled_len-spooled.ensures.len, c.waiting_len-waiting.ensures)
+    let opened = ap (λ (l : Line). length l.opened) c.self.view_is in
+    omega (arith, all, told, opened, c.note_count-made.ensures, c.open_len-opened.ensures.len, c.spooled_len-spooled.ensures.len, c.waiting_len-waiting.ensures)
 
 pub returns : goal.returns
 returns c =
     let all = all_counted c.self.inside.line c.self.inside.answered c.self.invariant in
     let told = ap (λ (l : Line). length l.told) c.self.view_is in
     let dropped = ap (λ (l : Line). dropped_count l.told) c.self.view_is in
-    let opened = ap (λ (l : Line). one_if (is_some l.opened)) c.self.view_is in
-    let one = ap one_if c.has_open-one_open.ensures in
-    omega (arith, all, told, dropped, opened, one, c.left_without.ensures, c.note_count-made.ensures, c.spooled_len-spooled.ensures.len, c.waiting_len-waiting.ensures)
+    let opened = ap (λ (l : Line). length l.opened) c.self.view_is in
+    omega (arith, all, told, dropped, opened, c.left_without.ensures, c.note_count-made.ensures, c.open_len-opened.ensures.len, c.spooled_len-spooled.ensures.len, c.waiting_len-waiting.ensures)

@@ -4,7 +4,7 @@ use Rattle.spool.specs.declared.note.Note.{Note}
 use Rattle.spool_format.proofs.Given.{ok_given}
 use Rattle.spool_format.proofs.Spelled.{put_back_body_size, fits_put_back}
 use Rattle.spool_format.specs.Format.{Fits, Settled, IsSize, body}
-use Rattle.spool_format.specs.ByNumber.{may_put_back}
+use Rattle.spool.specs.ByNumber.{may_put_back}
 use Rattle.spool_format.specs.Place.{sizes}
 use Rattle.spool_format.specs.declared.change.Change.TheVariants.{PutBack}
 use Rattle.nv_spool.proofs.nv_spool.NvSpool.put_back.Goals as goal

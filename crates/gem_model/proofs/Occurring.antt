@@ -265,7 +265,7 @@ closed_written one g = of one.what where
   of what.Attempt = beside g out refl refl refl refl refl
   of (what.Note n) = record {
     notes = goes_still g.line (note_answered (what.Note n) g).line g.waiting (answered-tells n g.line) (λ P. answered-stands P n g.line);
-    writes = record { comm = refl; control = refl; line = answers_note; floor = writes_nothing };
+    writes = record { comm = refl; control = refl; line = answers_note n; floor = writes_nothing };
     rowless = refl;
   }
 

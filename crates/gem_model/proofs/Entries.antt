@@ -3,6 +3,7 @@ use Rattle.std.proofs.Common.{◌≡◌, ℕ, Bool, true, false, if◌then◌els
 use Rattle.tool_events.specs.declared.entry.Entry.{Entry}
 use Rattle.tool_events.specs.declared.answer.Answer.TheVariants as answer
 use Rattle.gem_model.specs.State.{State, raised}
+use Rattle.gem_model.specs.Direct.{Are, IsListed}
 use Rattle.gem_model.specs.Inputs.{Fires}
 use Rattle.gem_model.specs.Occurrences.{rows_among, occurrences, rows_of_input}
 use Rattle.gem_model.specs.Settle.{settled}
@@ -41,3 +42,10 @@ input_fires g entry o here =
     let h : State = raised g entry.at.0 in
     let acted = acted_so g entry o here in
     subst (λ (b : Bool). Fires (if b then [] else rows_among (occurrences g.moment h entry.event)) h o.after) (sym acted.0) (event_occurs g.moment h o entry.event acted.1).fires
+
+-- and of table 3 they are such as inputs fire
+pub input_listed : (g : State) (entry : Entry) (o : Outcome) → input_of g entry ≡ Some o → Are IsListed (rows_of_input g entry)
+input_listed g entry o here =
+    let h : State = raised g entry.at.0 in
+    let acted = acted_so g entry o here in
+    subst (λ (b : Bool). Are IsListed (if b then [] else rows_among (occurrences g.moment h entry.event))) (sym acted.0) (event_occurs g.moment h o entry.event acted.1).listed

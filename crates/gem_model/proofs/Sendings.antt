@@ -55,21 +55,21 @@ use Rattle.gem_model.proofs.Validity.{opening_valid, run-line}
 -- ---- the line goes on
 
 -- a line is valid, and so many notes may be open
-abbrev Goes : ℕ → State → Type 0
+abbrev pub Goes : ℕ → State → Type 0
 Goes n g = LineValid g.line × (g.line.window ≡ n)
 
-goes_ready : (n : ℕ) (g : State) (f : Firing) → least g ≡ Some f → Goes n g → Goes n (fire g f)
+pub goes_ready : (n : ℕ) (g : State) (f : Firing) → least g ≡ Some f → Goes n g → Goes n (fire g f)
 goes_ready n g f ready at = let keeps = lined_automatic g f ready at.0 in (keeps.valid, keeps.window ∙ at.1)
 
-goes_created : (n : ℕ) (g : State) (d : Firing) → is_creation d ≡ true → Goes n g → Goes n (fire g d)
+pub goes_created : (n : ℕ) (g : State) (d : Firing) → is_creation d ≡ true → Goes n g → Goes n (fire g d)
 goes_created n g d made at = let keeps = lined_creation g d made at.0 in (keeps.valid, keeps.window ∙ at.1)
 
-goes_input : (n : ℕ) (g : State) (entry : Entry) (o : Outcome) → input_of g entry ≡ Some o → Goes n g → Goes n o.after
+pub goes_input : (n : ℕ) (g : State) (entry : Entry) (o : Outcome) → input_of g entry ≡ Some o → Goes n g → Goes n o.after
 goes_input n g entry o here at =
     let keeps = (kept_acts Any (Lined g) (lined_kept g) g.moment (raised g entry.at.0) entry.event o tt (lined_at g) (acted_so g entry o here).1) at.0 in
     (keeps.valid, keeps.window ∙ at.1)
 
-goes_entry : (n : ℕ) (g : State) (entry : Entry) → Goes n g → Goes n (entry_after g entry)
+pub goes_entry : (n : ℕ) (g : State) (entry : Entry) → Goes n g → Goes n (entry_after g entry)
 goes_entry n g entry at = behind_entry (Goes n) g entry at at (λ o here. settled_keeps (Goes n) (goes_ready n) (goes_created n) o.after (goes_input n g entry o here at))
 
 -- ---- what a firing sends
@@ -79,7 +79,7 @@ first_one P [] are = tt
 first_one P (note ∷ notes) are = (are.0, tt)
 
 -- it was spooled, or waited
-sends_of : (P : Note → Type 0) (row : ℕ) (l : Line) → AllByRecursion P (l.spool.notes ++ l.waiting) → AllByRecursion P (sends row l)
+pub sends_of : (P : Note → Type 0) (row : ℕ) (l : Line) → AllByRecursion P (l.spool.notes ++ l.waiting) → AllByRecursion P (sends row l)
 sends_of P row l all =
     either_way (AllByRecursion P) (row == 12) (take 1 l.spool.notes) (if row == 13 then take 1 l.waiting else [])
     (first_one P l.spool.notes (all_first P l.spool.notes l.waiting all))
@@ -100,10 +100,10 @@ sent_alone R g f =
     (either_way (Pairwise R) (f.row.row == 13) (take 1 g.line.waiting) [] (one_alone R g.line.waiting) tt)) tt
 
 -- a row of another table sends none
-none_sent : (g : State) (f : Firing) → (f.row.table == 3) ≡ false → sent_by g f ≡ []
+pub none_sent : (g : State) (f : Firing) → (f.row.table == 3) ≡ false → sent_by g f ≡ []
 none_sent g f not_3 = ap (λ (b : Bool). if b then sends f.row.row g.line else []) not_3
 
-created_sends : (g : State) (d : Firing) → is_creation d ≡ true → sent_by g d ≡ []
+pub created_sends : (g : State) (d : Firing) → is_creation d ≡ true → sent_by g d ≡ []
 created_sends g d made = none_sent g d (creation_is d made).not_3
 
 -- what is so of each note that a firing sends is so of each that firings send
@@ -139,12 +139,13 @@ run-least c entries h run = each_least c.window (opening c) entries ((opening_va
 -- says such of the note and each that is spooled or waits.
 record IsBehind (n : ℕ) (R : Note → Note → Type 0) (I : Note → Line → Type 0) (May : Note → ℕ → Type 0) : Type 1 where
   pub fact : (x : Note) → LineFact (May x) (I x)
+  pub steps : (x : Note) (a : Around) (row : ℕ) (l : Line) → table.least a l ≡ Some row → I x l → I x (row_effect a row 0 l)
   pub begins : (a : Around) (row : ℕ) (l : Line) → table.least a l ≡ Some row → LineValid l → l.window ≡ n → AllByRecursion (λ (x : Note). I x (row_effect a row 0 l)) (sends row l)
   pub says : (x : Note) (l : Line) → I x l → AllByRecursion (R x) (l.spool.notes ++ l.waiting)
 
 module _ (n : ℕ) (R : Note → Note → Type 0) (I : Note → Line → Type 0) (May : Note → ℕ → Type 0) (is : IsBehind n R I May) where
   i_ready : (x : Note) (g : State) (f : Firing) → least g ≡ Some f → I x g.line → I x (fire g f).line
-  i_ready x g f ready at = by_ready (May x) (I x) (is.fact x) g f ready at
+  i_ready x g f ready at = by_ready (May x) (I x) (is.fact x) (is.steps x) g f ready at
 
   i_created : (x : Note) (g : State) (d : Firing) → is_creation d ≡ true → I x g.line → I x (fire g d).line
   i_created x g d made at = by_created (May x) (I x) (is.fact x) g d made at
@@ -210,17 +211,21 @@ module _ (n : ℕ) (R : Note → Note → Type 0) (I : Note → Line → Type 0)
     of (Some o) here = (later x [] (settling o.after) tt o.after (settled o.after) (settles_so o.after) (by_input (May x) (I x) (is.fact x) g entry o here may at)).0
 
   later_entry : (x : Note) (g : State) (entry : Entry) → AllByRecursion (May x) (failed_among (rows_of_input g entry)) → I x g.line → I x (entry_after g entry).line
-  later_entry x g entry may at = by_entry (May x) (I x) (is.fact x) g entry may at
+  later_entry x g entry may at = by_entry (May x) (I x) (is.fact x) (is.steps x) g entry may at
+
+-- a row that fires by itself fails no transaction
+pub not_failing : {P : Type 0} (a : Around) (row : ℕ) (l : Line) → table.least a l ≡ Some row → row ≡ 14 → P
+not_failing a row l ready fails = absurd (true≢false (sym (eq-eqb row 14 fails) ∙ least-not_14 a l row ready))
 
 -- ---- numbers go on
 
 -- as many numbers were given where they tell of the same
-next_same : (l h : Line) → map tells h.told ≡ map tells l.told → next h ≡ next l
+pub next_same : (l h : Line) → map tells h.told ≡ map tells l.told → next h ≡ next l
 next_same l h same =
     let lengths : length (map tells h.told) ≡ length (map tells l.told) = ap length same in
     omega (arith, lengths, length-map h.told tells, length-map l.told tells)
 
-next_more : (kind : Kind) (id : ℕ) (text : List ℕ) (l : Line) → next (noted kind id text l) ≡ suc (next l)
+pub next_more : (kind : Kind) (id : ℕ) (text : List ℕ) (l : Line) → next (noted kind id text l) ≡ suc (next l)
 next_more kind id text l = omega (arith, length_push l.told (record { kind = kind; id = id; fate = Waiting }))
 
 -- ---- where one may be open at once
@@ -228,6 +233,9 @@ next_more kind id text l = omega (arith, length_push l.told (record { kind = kin
 -- each note that stands, and each that will be made, isn't below this one of its kind
 abbrev Above : Note → Line → Type 0
 Above x l = (x.number < next l) × AllByRecursion (NotBelow x) (standing l)
+
+above_row : (x : Note) (a : Around) (row note : ℕ) (l : Line) → Above x l → Above x (row_effect a row note l)
+above_row x a row note l at = let below = at.0 in (omega (arith, below, next_same l (row_effect a row note l) (row-tells a row note l)), row-stands (NotBelow x) a row note l at.1)
 
 above_fact : (x : Note) → LineFact (λ m. Unit {0}) (Above x)
 above_fact x = record {
@@ -238,11 +246,11 @@ above_fact x = record {
       (all_joined (NotBelow x) (standing l) (record { number = next l; kind = kind; id = id; text = text } ∷ []) at.1 ((λ same. omega (arith, below)), tt)));
   answer = λ number l at. let below = at.0 in (omega (arith, below, next_same l (answered number l) (answered-tells number l)), answered-stands (NotBelow x) number l at.1);
   kinds = λ k l at. (either_way (λ (h : Line). x.number < next h) (has_note l.spool) l (record l { kinds = k }) at.0 at.0, kinds-stands (NotBelow x) k l at.1);
-  row = λ a row note l may at. let below = at.0 in (omega (arith, below, next_same l (row_effect a row note l) (row-tells a row note l)), row-stands (NotBelow x) a row note l at.1);
+  row = λ a row note l direct may at. above_row x a row note l at;
 }
 
 -- its number was given
-given_next : (a : Around) (row : ℕ) (l : Line) → table.least a l ≡ Some row → LineValid l → AllByRecursion (λ (x : Note). x.number < next (row_effect a row 0 l)) (sends row l)
+pub given_next : (a : Around) (row : ℕ) (l : Line) → table.least a l ≡ Some row → LineValid l → AllByRecursion (λ (x : Note). x.number < next (row_effect a row 0 l)) (sends row l)
 given_next a row l ready valid =
     let same = next_same l (row_effect a row 0 l) (row-tells a row 0 l) in
     all_mapped (IsTold l) (λ (x : Note). x.number < next (row_effect a row 0 l)) (λ x told. let below = told.below in omega (arith, below, same)) (sends row l)
@@ -272,7 +280,7 @@ above_sent a row l ready valid one = of (sends row l) refl (given_next a row l r
       ((below.0,
       all_joined (NotBelow x) h.opened (h.spool.notes ++ h.waiting)
       (subst (AllByRecursion (NotBelow x)) (sym (opened ∙ ap (λ (notes : List Note). l.opened ++ notes) is)) (all_joined (NotBelow x) l.opened (x ∷ []) alone ((λ same. omega arith), tt)))
-      (row-rests (NotBelow x) a row 0 l (λ fails. absurd (true≢false (sym (eq-eqb row 14 fails) ∙ least-not_14 a l row ready))) all.0)), tt)
+      (row-rests (NotBelow x) a row 0 l (λ fails. not_failing a row l ready fails) all.0)), tt)
   of (x ∷ (y ∷ others)) is below all =
       let counts = length-append l.opened (sends row l) in
       let more : length (sends row l) ≡ suc (suc (length others)) = ap length is in
@@ -281,11 +289,12 @@ above_sent a row l ready valid one = of (sends row l) refl (given_next a row l r
 above_behind : IsBehind 1 NotBelow Above (λ x m. Unit {0})
 above_behind = record {
   fact = above_fact;
+  steps = λ x a row l ready at. above_row x a row 0 l at;
   begins = above_sent;
   says = λ x l at. all_second (NotBelow x) l.opened (l.spool.notes ++ l.waiting) at.1;
 }
 
-any_numbers : (ns : List ℕ) → AllByRecursion (λ (m : ℕ). Unit {0}) ns
+pub any_numbers : (ns : List ℕ) → AllByRecursion (λ (m : ℕ). Unit {0}) ns
 any_numbers [] = tt
 any_numbers (m ∷ ns) = (tt, any_numbers ns)
 
@@ -319,6 +328,12 @@ other_number n m k other same = ap (λ (j : ℕ). j == n) same ∙ other
 above_other : (n k : ℕ) → n < k → (k == n) ≡ false
 above_other n k less = grind (arith, nat_tests)
 
+away_row : (n : ℕ) (a : Around) (row note : ℕ) (l : Line) → (row ≡ 14 → (note == n) ≡ false) → Away n l → Away n (row_effect a row note l)
+away_row n a row note l may at =
+    let below = at.0 in
+    (omega (arith, below, next_same l (row_effect a row note l) (row-tells a row note l)),
+    row-rests (IsOther n) a row note l (λ fails one found. other_number n note one.number (may fails) (eqb-true one.number note (found-between note l.opened one found).same)) at.1)
+
 away_fact : (n : ℕ) → LineFact (λ m. (m == n) ≡ false) (Away n)
 away_fact n = record {
   new = λ kind id text l at.
@@ -328,10 +343,7 @@ away_fact n = record {
       (all_joined (IsOther n) (l.spool.notes ++ l.waiting) (record { number = next l; kind = kind; id = id; text = text } ∷ []) at.1 (above_other n (next l) below, tt)));
   answer = λ number l at. let below = at.0 in (omega (arith, below, next_same l (answered number l) (answered-tells number l)), answered-rests (IsOther n) number l at.1);
   kinds = λ k l at. (either_way (λ (h : Line). n < next h) (has_note l.spool) l (record l { kinds = k }) at.0 at.0, kinds-rests (IsOther n) k l at.1);
-  row = λ a row note l may at.
-      let below = at.0 in
-      (omega (arith, below, next_same l (row_effect a row note l) (row-tells a row note l)),
-      row-rests (IsOther n) a row note l (λ fails one found. other_number n note one.number (may fails) (eqb-true one.number note (found-between note l.opened one found).same)) at.1);
+  row = λ a row note l direct may at. away_row n a row note l may at;
 }
 
 -- an open note is none of those that are spooled or wait
@@ -362,6 +374,7 @@ OtherThan x m = (m == x.number) ≡ false
 away_behind : (n : ℕ) → IsBehind n Apart AwayFrom OtherThan
 away_behind n = record {
   fact = λ x. away_fact x.number;
+  steps = λ x a row l ready at. away_row x.number a row 0 l (λ fails. not_failing a row l ready fails) at;
   begins = λ a row l ready valid window. away_sent a row l ready valid;
   says = λ x l at. at.1;
 }

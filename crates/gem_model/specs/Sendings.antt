@@ -1,6 +1,7 @@
 -- Which notes are sent in a history, for the first time or again, and which of their transactions fail (SEMI E5, S6F11 and S5F1; this
 -- tool's profile, notes).
 use Rattle.std.specs.Prelude.{ℕ, ◌==◌, ◌≡◌, ◌&&◌, if◌then◌else◌, List, [], ◌∷◌, ◌++◌, map, Option, None, Some, Contains}
+use Rattle.std.specs.List.{AllByRecursion}
 use Rattle.spool.specs.declared.note.Note.{Note}
 use Rattle.gem_tables.specs.declared.firing.Firing.{Firing}
 use Rattle.note_line.specs.Table3.{sends}
@@ -12,6 +13,7 @@ use Rattle.gem_model.specs.Settle.{settling, EachFiring}
 use Rattle.gem_model.specs.Step.{Outcome}
 use Rattle.gem_model.specs.Run.{input_of, entry_after}
 use Rattle.gem_model.specs.Occurrences.{rows_of_input}
+use Rattle.gem_model.specs.OpenNotes.{IsOther}
 
 -- ---- firings
 
@@ -79,6 +81,12 @@ EachLeast g (entry ∷ entries) =
 -- sendings of one kind never go back to a lower number
 abbrev pub NeverBack : State → List Entry → Type 0
 NeverBack g entries = Pairwise NotBelow (sendings g entries)
+
+-- a note that is sent for the first time isn't below one of its kind that was sent before
+abbrev pub FirstsInOrder : List Note → Type 0
+FirstsInOrder sent =
+    (front between behind : List Note) (earlier first : Note) → sent ≡ front ++ earlier ∷ (between ++ first ∷ behind)
+    → AllByRecursion (IsOther first.number) (front ++ earlier ∷ between) → NotBelow earlier first
 
 -- between two sendings of one number its transaction fails
 abbrev pub FailsBetween : List Turn → Type 0

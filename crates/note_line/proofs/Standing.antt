@@ -19,7 +19,7 @@ use Rattle.note_line.proofs.Places.{IsFound, found-between, all_placed}
 use Rattle.note_line.proofs.Rows.{find_gives, fired-notes, begun-notes}
 
 -- it is so of the open notes, and this of those that are spooled and of those that wait
-abbrev Places : (Note → Type 0) → (Note → Type 0) → Line → Type 0
+abbrev pub Places : (Note → Type 0) → (Note → Type 0) → Line → Type 0
 Places Q P l = AllByRecursion Q l.opened × AllByRecursion P l.spool.notes × AllByRecursion P l.waiting
 
 places : (P : Note → Type 0) (l : Line) → AllByRecursion P (standing l) → Places P P l
@@ -76,7 +76,11 @@ module _ (Q P : Note → Type 0) where
     of None e = all
     of (Some note) e = found note e (found-between number l.opened note e)
 
-  oldest-places : ((note : Note) → P note → Q note) → (notes : List Note) (l : Line) → AllByRecursion P notes → Places Q P l → Places Q P (open_oldest_of notes l)
+  -- a note may be sent
+  abbrev MayGo : Type 0
+  MayGo = (note : Note) → P note → Q note
+
+  oldest-places : MayGo → (notes : List Note) (l : Line) → AllByRecursion P notes → Places Q P l → Places Q P (open_oldest_of notes l)
   oldest-places opens [] l are all = all
   oldest-places opens (note ∷ notes) l are all = (all_joined Q l.opened (note ∷ []) all.0 (opens note are.0, tt), all_left P _ _ _ (first-loses l.spool.notes) all.1, all.2)
 
@@ -102,37 +106,37 @@ module _ (Q P : Note → Type 0) where
   -- ---- each row
 
   abbrev RowPlaces : Row → Type 0
-  RowPlaces r = (a : Around) (note : ℕ) (l : Line) → (r.number ≡ 14 → MayReturn note l) → Places Q P l → Places Q P (r.effect a note l)
+  RowPlaces r = (a : Around) (note : ℕ) (l : Line) → (r.number ≡ 12 → MayGo) → (r.number ≡ 13 → MayGo) → (r.number ≡ 14 → MayReturn note l) → Places Q P l → Places Q P (r.effect a note l)
 
-  rows_places : ((note : Note) → P note → Q note) → AllByRecursion RowPlaces line_table
-  rows_places opens = (
-    (λ a number l may all. restated-places 1 l all),
+  rows_places : AllByRecursion RowPlaces line_table
+  rows_places = (
+    (λ a number l oldest head fails all. restated-places 1 l all),
     (
-      (λ a number l may all. restated-places 2 l all),
+      (λ a number l oldest head fails all. restated-places 2 l all),
       (
-        (λ a number l may all. restated-places 3 l all),
+        (λ a number l oldest head fails all. restated-places 3 l all),
         (
-          (λ a number l may all. begun-places 0 a l all),
+          (λ a number l oldest head fails all. begun-places 0 a l all),
           (
-            (λ a number l may all. begun-places 1 a l all),
+            (λ a number l oldest head fails all. begun-places 1 a l all),
             (
-              (λ a number l may all. purged-places l.spool.notes l all),
+              (λ a number l oldest head fails all. purged-places l.spool.notes l all),
               (
-                (λ a number l may all. restated-places 7 l all),
+                (λ a number l oldest head fails all. restated-places 7 l all),
                 (
-                  (λ a number l may all. restated-places 8 l all),
+                  (λ a number l oldest head fails all. restated-places 8 l all),
                   (
-                    (λ a number l may all. restated-places 9 l all),
+                    (λ a number l oldest head fails all. restated-places 9 l all),
                     (
-                      (λ a number l may all. head-places (spooled a.overwrites) (spooled-places a.overwrites) l.waiting l all.2 all),
+                      (λ a number l oldest head fails all. head-places (spooled a.overwrites) (spooled-places a.overwrites) l.waiting l all.2 all),
                       (
-                        (λ a number l may all. head-places (fated (Dropped NoSpool)) (λ note h is in_h. in_h) l.waiting l all.2 all),
+                        (λ a number l oldest head fails all. head-places (fated (Dropped NoSpool)) (λ note h is in_h. in_h) l.waiting l all.2 all),
                         (
-                          (λ a number l may all. oldest-places opens l.spool.notes l all.1 all),
+                          (λ a number l oldest head fails all. oldest-places (oldest refl) l.spool.notes l all.1 all),
                           (
-                            (λ a number l may all. head-places sent (λ note h is in_h. (all_joined Q h.opened (note ∷ []) in_h.0 (opens note is, tt), in_h.1, in_h.2)) l.waiting l all.2 all),
+                            (λ a number l oldest head fails all. head-places sent (λ note h is in_h. (all_joined Q h.opened (note ∷ []) in_h.0 (head refl note is, tt), in_h.1, in_h.2)) l.waiting l all.2 all),
                             (
-                              (λ a number l may all. fail-places a number l (may refl) all),
+                              (λ a number l oldest head fails all. fail-places a number l (fails refl) all),
                               tt,
                             ),
                           ),
@@ -150,52 +154,64 @@ module _ (Q P : Note → Type 0) where
   )
 
   -- where a note that is sent has the other thing too, and one that is put back has this
-  row-places : ((note : Note) → P note → Q note) → (a : Around) (number note : ℕ) (l : Line) → (number ≡ 14 → MayReturn note l) → Places Q P l → Places Q P (row_effect a number note l)
-  row-places opens a number note l may all = of (row_of number) refl where
+  pub row-places : (a : Around) (number note : ℕ) (l : Line) → (number ≡ 12 → MayGo) → (number ≡ 13 → MayGo) → (number ≡ 14 → MayReturn note l) → Places Q P l → Places Q P (row_effect a number note l)
+  row-places a number note l oldest head fails all = of (row_of number) refl where
     of : (one : Option Row) → row_of number ≡ one → Places Q P (effect_of one a note l)
     of None q = all
     of (Some r) q =
-        let its = find_gives RowPlaces (λ r. r.number == number) line_table r (rows_places opens) q in
-        its.0 a note l (λ is. may (sym (eqb-true r.number number its.1) ∙ is)) all
+        let its = find_gives RowPlaces (λ r. r.number == number) line_table r rows_places q in
+        let same = sym (eqb-true r.number number its.1) in
+        its.0 a note l (λ is. oldest (same ∙ is)) (λ is. head (same ∙ is)) (λ is. fails (same ∙ is)) all
+
+  -- ---- the answer, and the kinds
+
+  pub answered-places : (number : ℕ) (l : Line) → Places Q P l → Places Q P (answered number l)
+  answered-places number l all = open-places (fated Answered) number l (λ note h e is in_h. in_h) all
+
+  pub kinds-places : (kinds : SpooledKinds) (l : Line) → Places Q P l → Places Q P (with_kinds kinds l)
+  kinds-places kinds l all = of (has_note l.spool) where
+    of : (b : Bool) → Places Q P (if b then l else record l { kinds = kinds })
+    of true = all
+    of false = all
+
+-- ---- each note that stands
 
 pub row-stands : (P : Note → Type 0) (a : Around) (number note : ℕ) (l : Line) → AllByRecursion P (standing l) → AllByRecursion P (standing (row_effect a number note l))
-row-stands P a number note l all = stand P (row_effect a number note l) (row-places P P (λ one is. is) a number note l (λ fails one e is. is) (places P l all))
+row-stands P a number note l all =
+    stand P (row_effect a number note l) (row-places P P a number note l (λ oldest one is. is) (λ head one is. is) (λ fails one e is. is) (places P l all))
 
--- Each note that is spooled or waits behind a row, did so before, but one that is put back.
+pub answered-stands : (P : Note → Type 0) (number : ℕ) (l : Line) → AllByRecursion P (standing l) → AllByRecursion P (standing (answered number l))
+answered-stands P number l all = stand P (answered number l) (answered-places P P number l (places P l all))
+
+pub kinds-stands : (P : Note → Type 0) (kinds : SpooledKinds) (l : Line) → AllByRecursion P (standing l) → AllByRecursion P (standing (with_kinds kinds l))
+kinds-stands P kinds l all = stand P (with_kinds kinds l) (kinds-places P P kinds l (places P l all))
+
+-- ---- each note that is spooled or waits
+
+-- whatever is so of the open ones
+abbrev Anything : Note → Type 0
+Anything note = Unit {0}
+
+rests : (P : Note → Type 0) (l : Line) → AllByRecursion P (l.spool.notes ++ l.waiting) → Places Anything P l
+rests P l all = (any l.opened, all_first P l.spool.notes l.waiting all, all_second P l.spool.notes l.waiting all) where
+  any : (notes : List Note) → AllByRecursion Anything notes
+  any [] = tt
+  any (one ∷ others) = (tt, any others)
+
+at_rest : (P : Note → Type 0) (l : Line) → Places Anything P l → AllByRecursion P (l.spool.notes ++ l.waiting)
+at_rest P l in_places = all_joined P l.spool.notes l.waiting in_places.1 in_places.2
+
+-- such a note was one before the row, but where it is put back
 pub row-rests : (P : Note → Type 0) (a : Around) (number note : ℕ) (l : Line) → (number ≡ 14 → (one : Note) → find (is_number note) l.opened ≡ Some one → P one)
     → AllByRecursion P (l.spool.notes ++ l.waiting) → AllByRecursion P ((row_effect a number note l).spool.notes ++ (row_effect a number note l).waiting)
 row-rests P a number note l may all =
-    let h : Line = row_effect a number note l in
-    let behind = row-places (λ (one : Note). Unit {0}) P (λ one is. tt) a number note l (λ fails one e is. may fails one e)
-    (units l.opened, all_first P l.spool.notes l.waiting all, all_second P l.spool.notes l.waiting all) in
-    all_joined P h.spool.notes h.waiting behind.1 behind.2
-  where
-    units : (notes : List Note) → AllByRecursion (λ (one : Note). Unit {0}) notes
-    units [] = tt
-    units (one ∷ others) = (tt, units others)
-
--- ---- the answer, and the kinds
-
-pub answered-stands : (P : Note → Type 0) (number : ℕ) (l : Line) → AllByRecursion P (standing l) → AllByRecursion P (standing (answered number l))
-answered-stands P number l all = stand P (answered number l) (open-places P P (fated Answered) number l (λ note h e is in_h. in_h) (places P l all))
-
-pub kinds-stands : (P : Note → Type 0) (kinds : SpooledKinds) (l : Line) → AllByRecursion P (standing l) → AllByRecursion P (standing (with_kinds kinds l))
-kinds-stands P kinds l all = of (has_note l.spool) where
-  of : (b : Bool) → AllByRecursion P (standing (if b then l else record l { kinds = kinds }))
-  of true = all
-  of false = all
+    at_rest P (row_effect a number note l) (row-places Anything P a number note l (λ oldest one is. tt) (λ head one is. tt) (λ fails one e is. may fails one e) (rests P l all))
 
 pub answered-rests : (P : Note → Type 0) (number : ℕ) (l : Line) → AllByRecursion P (l.spool.notes ++ l.waiting) → AllByRecursion P ((answered number l).spool.notes ++ (answered number l).waiting)
-answered-rests P number l all = of (find (is_number number) l.opened) where
-  of : (one : Option Note) → AllByRecursion P ((with_one (fated Answered) number one l).spool.notes ++ (with_one (fated Answered) number one l).waiting)
-  of None = all
-  of (Some note) = all
+answered-rests P number l all = at_rest P (answered number l) (answered-places Anything P number l (rests P l all))
 
 pub kinds-rests : (P : Note → Type 0) (kinds : SpooledKinds) (l : Line) → AllByRecursion P (l.spool.notes ++ l.waiting) → AllByRecursion P ((with_kinds kinds l).spool.notes ++ (with_kinds kinds l).waiting)
-kinds-rests P kinds l all = of (has_note l.spool) where
-  of : (b : Bool) → AllByRecursion P ((if b then l else record l { kinds = kinds }).spool.notes ++ (if b then l else record l { kinds = kinds }).waiting)
-  of true = all
-  of false = all
+kinds-rests P kinds l all = at_rest P (with_kinds kinds l) (kinds-places Anything P kinds l (rests P l all))
 
 -- ---- each note that stands stood before
 

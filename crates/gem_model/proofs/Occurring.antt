@@ -53,7 +53,7 @@ use Rattle.gem_model.specs.Fire.{advanced, fire_listed}
 use Rattle.gem_model.specs.Remote.{Decision, refused, goes_local, clears, decided, commands, is_local}
 use Rattle.gem_model.specs.HostMessages.{HostMessage, Gem, Shop, reply_text}
 use Rattle.gem_model.specs.Messages.{done, gem_done, shop_done, remote_done, clock_set, carrier_action_done}
-use Rattle.gem_model.specs.Direct.{answer_rows, session_end_rows, timeout_rows, operator_rows}
+use Rattle.gem_model.specs.Direct.{Are, IsListed, answer_rows, session_end_rows, timeout_rows, operator_rows}
 use Rattle.gem_model.specs.Verdict.{Verdict, Discarded, Stream9, Aborted, Answers, Taken, verdict, header_of, item_of, wants_reply, stream_of, function_of}
 use Rattle.gem_model.specs.Act.{note_answered, replied, taken, closed_by, data_act, session_ended}
 use Rattle.gem_model.specs.Due.{Due, EndOfSession, Linktest, Timeout, dues, is_due, due_done, all_done, asks_linktest}

@@ -1,6 +1,6 @@
 -- The notes that are sent: each is the least of its kind among those that are spooled or wait; where one may be open at once none of a kind goes
 -- back; a number is sent again only after its transaction failed, and none that has ended is sent again.
-use Rattle.std.proofs.Common.{◌≡◌, ℕ, suc, ◌+◌, ◌<◌, ◌≤◌, ◌==◌, Bool, true, false, if◌then◌else◌, List, [], ◌∷◌, ◌++◌, length, map, take, find, Contains, Option, Some, None, refl, sym, ap, subst, arith, append_assoc, length-append, ◌∙◌}
+use Rattle.std.proofs.Common.{◌≡◌, ℕ, suc, ◌<◌, ◌≤◌, ◌==◌, Bool, true, false, if◌then◌else◌, List, [], ◌∷◌, ◌++◌, length, map, take, Contains, Option, Some, None, refl, sym, ap, subst, arith, append_assoc, length-append, ◌∙◌}
 use Rattle.std.specs.List.{AllByRecursion}
 use Rattle.std.proofs.lemmas.Bool.{true≢false, eq-eqb, eqb-true}
 use Rattle.std.proofs.lemmas.Bool.Decides.{nat_tests}
@@ -12,10 +12,9 @@ use Rattle.spool.specs.declared.note.Note.{Note}
 use Rattle.spool.specs.declared.note.Kind.{Kind}
 use Rattle.spool.specs.Spool.{has_note}
 use Rattle.note_line.specs.declared.around.Around.{Around}
-use Rattle.note_line.specs.declared.around.SpooledKinds.{SpooledKinds}
 use Rattle.note_line.specs.declared.fate.Fate.{Fate}
 use Rattle.note_line.specs.declared.fate.Fate.TheVariants.{Answered, Open, Waiting, Spooled, Dropped}
-use Rattle.note_line.specs.Line.{Line, next, standing, is_number, noted, answered, with_kinds, fate_of}
+use Rattle.note_line.specs.Line.{Line, next, standing, noted, answered, fate_of}
 use Rattle.note_line.specs.Table3.{sends, row_effect}
 use Rattle.note_line.specs.Table3 as table
 use Rattle.note_line.specs.Order.{Pairwise, NotBelow, Between}

@@ -1,12 +1,12 @@
 -- The rows of the line of notes that fire by themselves: which is ready, and what they do.
-use Rattle.std.proofs.Common.{◌≡◌, ℕ, ◌≤◌, List, [], ◌∷◌, ◌++◌, Option, Some, None, option_map, refl, subst, arith}
+use Rattle.std.proofs.Common.{◌≡◌, ℕ, ◌≤◌, ◌==◌, true, false, Option, Some, None, option_map, refl, sym, subst, arith}
+use Rattle.std.proofs.lemmas.Bool.{true≢false}
 use Rattle.std.specs.List.{AllByRecursion}
 use Rattle.gem_tables.specs.Table.{firing}
 use Rattle.gem_tables.specs.declared.firing.Firing.{Firing}
 use Rattle.gem_rows.specs.Events.{ceid_of}
-use Rattle.spool.specs.declared.note.Note.{Note}
 use Rattle.note_line.specs.declared.around.Around.{Around}
-use Rattle.note_line.specs.Line.{Line, open_oldest_of, with_head, sent}
+use Rattle.note_line.specs.Line.{Line}
 use Rattle.note_line.specs.Table3.{Row, line_table, least}
 use Rattle.note_line.specs.Left.{told_weight}
 use Rattle.note_line.proofs.Keeps.{least_is}
@@ -38,15 +38,14 @@ told_enough a l row ready =
     let is = least_is IsTold a l row all_told ready in
     subst (λ (n : ℕ). event_weight (ceid_of 3 n) ≤ told_weight n) is.its_number is.gives
 
--- those that were open, and behind them the first of some notes
-abbrev pub opened_by : List Note → List Note → List Note
-opened_by [] before = before
-opened_by (note ∷ notes) before = before ++ note ∷ []
+-- a row that fires by itself isn't row 14
+abbrev IsNot14 : Row → Type 0
+IsNot14 r = r.is_automatic ≡ true → (r.number == 14) ≡ false
 
-pub oldest_opened : (notes : List Note) (l : Line) → (open_oldest_of notes l).opened ≡ opened_by notes l.opened
-oldest_opened [] l = refl
-oldest_opened (note ∷ notes) l = refl
+none_14 : AllByRecursion IsNot14 line_table
+none_14 = ((λ auto. refl), ((λ auto. refl), ((λ auto. refl), ((λ auto. refl), ((λ auto. refl), ((λ auto. refl), ((λ auto. refl), ((λ auto. refl), ((λ auto. refl), ((λ auto. refl), ((λ auto. refl), ((λ auto. refl), ((λ auto. refl), ((λ auto. absurd (true≢false (sym auto))), tt))))))))))))))
 
-pub head_opened : (notes : List Note) (l : Line) → (with_head sent notes l).opened ≡ opened_by notes l.opened
-head_opened [] l = refl
-head_opened (note ∷ notes) l = refl
+pub least-not_14 : (a : Around) (l : Line) (row : ℕ) → least a l ≡ Some row → (row == 14) ≡ false
+least-not_14 a l row ready =
+    let is = least_is IsNot14 a l row none_14 ready in
+    subst (λ (n : ℕ). (n == 14) ≡ false) is.its_number (is.gives is.is_automatic)

@@ -1,5 +1,5 @@
--- The line of notes goes on: it stays valid, and what became of a note stays.
-use Rattle.std.proofs.Common.{◌∙◌, ◌≡◌, ℕ, ◌+◌, ◌*◌, ◌==◌, Bool, true, false, if◌then◌else◌, Option, Some, None, option_map, refl, subst, sym}
+-- The line of notes goes on: it stays valid, what became of a note stays, and so does how many may be open.
+use Rattle.std.proofs.Common.{◌∙◌, ◌≡◌, ℕ, ◌+◌, ◌*◌, ◌==◌, Bool, true, false, if◌then◌else◌, Option, Some, None, option_map, refl, ap, subst, sym}
 use Rattle.std.specs.Option.{option_or}
 use Rattle.gem_tables.specs.Table.{firing, row_of}
 use Rattle.gem_states.specs.Communication.{communication_table, comm_starts}
@@ -29,23 +29,23 @@ use Rattle.gem_model.proofs.Tests.{went, either_way, or_went, none_some}
 use Rattle.floor_model.specs.Machines.{floor_starts, is_creation}
 use Rattle.gem_model.proofs.FloorRows.{LeftAlone, alone_fire, ready_is, creation_is}
 use Rattle.gem_model.proofs.Each.{Each, each_kept}
-use Rattle.gem_model.proofs.Walk.{Any, kept_step_from}
+use Rattle.gem_model.proofs.Walk.{Any, Kept, kept_step_from}
 
 pub keeps-same : (l : Line) → LineValid l → Keeps l l
-keeps-same l valid = record { valid = valid; fates = fates-same l }
+keeps-same l valid = record { valid = valid; fates = fates-same l; window = refl }
 
 -- from the first state to the second the line goes on
 abbrev pub Lined : State → State → Type 0
 Lined g h = LineValid g.line → Keeps g.line h.line
 
-lined_at : (g : State) → Lined g g
+pub lined_at : (g : State) → Lined g g
 lined_at g valid = keeps-same g.line valid
 
-lined_then : (g h k : State) → Lined g h → Lined h k → Lined g k
+pub lined_then : (g h k : State) → Lined g h → Lined h k → Lined g k
 lined_then g h k first next valid =
     let one = first valid in
     let two = next one.valid in
-    record { valid = two.valid; fates = fates-trans g.line h.line k.line one.fates two.fates }
+    record { valid = two.valid; fates = fates-trans g.line h.line k.line one.fates two.fates; window = two.window ∙ one.window }
 
 -- the line is the same
 lined_same : (g h : State) → h.line ≡ g.line → Lined g h
@@ -73,6 +73,15 @@ line_control g row =
     let h : State = record g { control = control_fired row g.control } in
     control_effect_case (SameLine g) (row_of control_table row) h refl (line_either g _ h _ refl refl) refl
 
+-- a row of another table than 3 leaves the line as it is
+pub line_elsewhere : (g : State) (f : Firing) → (f.row.table == 3) ≡ false → SameLine g (takes_effect g f)
+line_elsewhere g f not_3 = ap (λ (h : State). h.line) (effect_as g f) ∙ of (f.row.table == 1) (f.row.table == 2) (f.row.table == 3) not_3 where
+  of : (first second third : Bool) → third ≡ false → SameLine g (if first then fire_comm f.row.row g else (if second then fire_control f.row.row g else (if third then fire_line f.row.row f.object g else fire_floor f g)))
+  of true second third none = line_comm g f.row.row
+  of false true third none = line_control g f.row.row
+  of false false true none = absurd (cc)
+  of false false false none = refl
+
 -- a firing's note
 lined_event : (event : Option ℕ) (o : Occasion) (online : Bool) (g : State) → Lined g (record g { line = line_behind event o online g })
 lined_event None o online g valid = lined_at g valid
@@ -94,7 +103,7 @@ by_tables false false false f row g listed is = lined_same g (fire_floor f g) re
 
 -- ---- the floor
 
-lined_alone : (g : State) → LeftAlone (Lined g)
+pub lined_alone : (g : State) → LeftAlone (Lined g)
 lined_alone g = record {
   floor = λ h x lined. lined;
   noted = λ h event o online lined. lined_then g h (record h { line = line_behind event o online h }) lined (lined_event event o online h);
@@ -112,7 +121,7 @@ lined_ready g f (Some row) ready here = let same : firing 3 0 row ≡ f = cc in 
 lined_firing : (g : State) (f one : Firing) → Lined g (fire g one) → Some one ≡ Some f → Lined g (fire g f)
 lined_firing g f one lined here = let same : one ≡ f = cc in subst (λ (x : Firing). Lined g (fire g x)) same lined
 
-lined_automatic : (g : State) (f : Firing) → least g ≡ Some f → Lined g (fire g f)
+pub lined_automatic : (g : State) (f : Firing) → least g ≡ Some f → Lined g (fire g f)
 lined_automatic g f ready =
     or_went (asks_host g) (option_or (gives_up g) (option_or (ready_line g) (ready_floor g))) f
     (λ at. went _ _ _ _ (λ over e. lined_firing g f (firing 1 0 3) (lined_fire g (firing 1 0 3) (lined_same g (fire_comm 3 g) (line_comm g 3))) e) (λ _ e. none_some f e) at)
@@ -121,7 +130,7 @@ lined_automatic g f ready =
     (λ _ last. or_went (ready_line g) (ready_floor g) f (λ at. lined_ready g f _ refl at) (λ _ at. alone_fire (Lined g) (lined_alone g) g f (ready_is g f at) (lined_at g)) last) behind)
     (sym (least_is g) ∙ ready)
 
-lined_creation : (g : State) (d : Firing) → is_creation d ≡ true → Lined g (fire g d)
+pub lined_creation : (g : State) (d : Firing) → is_creation d ≡ true → Lined g (fire g d)
 lined_creation g d is = alone_fire (Lined g) (lined_alone g) g d (creation_is d is) (lined_at g)
 
 -- ---- a step
@@ -157,13 +166,16 @@ lined_each g = record {
   link = λ h l lined. lined;
 }
 
+pub lined_kept : (g : State) → Kept Any (Lined g)
+lined_kept g = each_kept (Lined g) (lined_each g)
+
 -- the line goes on to the state of an outcome
 abbrev LinedTo : State → Outcome → Type 0
 LinedTo g o = Lined g o.after
 
 -- over each step the line goes on
 pub lined-step : (before : ℕ) (g : State) (e : Event) (o : Outcome) → step_from before g e ≡ Some o → LinedTo g o
-lined-step before g e o here = kept_step_from Any (Lined g) (each_kept (Lined g) (lined_each g)) before g e o tt (lined_at g) here
+lined-step before g e o here = kept_step_from Any (Lined g) (lined_kept g) before g e o tt (lined_at g) here
 
 pub lined-step-at : (g : State) (at : ℕ) (e : Event) (o : Outcome) → step g at e ≡ Some o → LinedTo g o
 lined-step-at g at e o here = lined-step g.moment (raised g at) e o here

@@ -10,6 +10,7 @@ use Rattle.gem_tables.specs.declared.firing.Firing.{Firing}
 use Rattle.gem_states.specs.declared.communication.CommTrigger.TheVariants as comm
 use Rattle.gem_states.specs.declared.control.ControlTrigger.TheVariants as trigger
 use Rattle.gem_states.specs.Triggers.{comm_rows, control_rows}
+use Rattle.tool_events.specs.declared.event.OperCmd.{OperCmd}
 use Rattle.tool_events.specs.declared.event.OperCmd.TheVariants as oper
 use Rattle.transactions.specs.declared.transaction.What.{What}
 use Rattle.transactions.specs.declared.transaction.What.TheVariants as what
@@ -46,7 +47,7 @@ use Rattle.gem_model.specs.Messages.{done, gem_done, shop_done, port_done, remot
 use Rattle.gem_model.specs.Spooling.{unload_rows}
 use Rattle.gem_model.specs.Direct.{Are, IsListed, by_comm, by_control, notes_fail, attempt_fails, all_fail, operator_rows, answer_rows, timeout_rows, session_end_rows, establish_answer, attempt_answer}
 use Rattle.gem_model.proofs.Tests.{went, either_way}
-use Rattle.gem_model.proofs.FloorRows.{IsFloorRow, AreFloorRows, IsOfInput, input_transfer, input_access, input_reservation, input_process, input_control, input_module, module_are, shop_are, port_are, service_are, access_are, advanced_keeps, command_are, control_rows_are}
+use Rattle.gem_model.proofs.FloorRows.{IsFloorRow, AreFloorRows, IsOfInput, input_transfer, input_access, input_reservation, input_process, input_control, input_module, module_are, shop_are, port_are, service_are, access_are, lost_are, advanced_keeps, command_are, control_rows_are}
 use Rattle.load_port.specs.declared.action.PortAction.{PortAction}
 use Rattle.load_port.specs.declared.action.PortAction.TheVariants as ask
 use Rattle.load_port.specs.declared.caack.Caack.{Caack}
@@ -320,7 +321,7 @@ free_port a g r code =
     of_floor (port_done g a r code).rows (port_are a g r code)
     (either_way AreAlone (is_done_code code) (port_rows a g.floor.shop) [] (alone_action a g.floor.shop) tt)
 
--- ---- the rows of messages
+-- ---- all that inputs list
 
 all_listed : (Is : Firing → Type 0) → ((f : Firing) → Is f → IsListed f) → (fs : List Firing) → Are Is fs → Are IsListed fs
 all_listed Is listed [] are = tt
@@ -329,3 +330,26 @@ all_listed Is listed (f ∷ fs) are = (listed f are.0, all_listed Is listed fs a
 pub listed_message : (m : HostMessage) (g : State) → Are IsListed (done g m).rows
 listed_message (Gem m) g = all_listed IsFree free_listed (gem_done g m).rows (free_gem m g)
 listed_message (Shop m) g = all_listed IsFloorRow listed_floor (shop_done g m).rows (shop_are m g)
+
+pub are_listed : (fs : List Firing) → Are IsEnd fs → Are IsListed fs
+are_listed fs are = all_listed IsEnd (λ f end. end.listed) fs are
+
+pub floor_listed : (fs : List Firing) → AreFloorRows fs → Are IsListed fs
+floor_listed fs are = all_listed IsFloorRow listed_floor fs are
+
+pub listed_operator : (command : OperCmd) (g : State) → Are IsListed (operator_rows command g)
+listed_operator oper.Enable g = all_listed IsFree free_listed (operator_rows oper.Enable g) free_enable
+listed_operator oper.Disable g = are_listed (operator_rows oper.Disable g) (listed_disable g)
+listed_operator oper.Online g = all_listed IsFree free_listed (operator_rows oper.Online g) (free_online g)
+listed_operator oper.Offline g = all_listed IsFree free_listed (operator_rows oper.Offline g) (free_offline g)
+listed_operator oper.Local g = all_listed IsFree free_listed (operator_rows oper.Local g) (free_local g)
+listed_operator oper.Remote g = all_listed IsFree free_listed (operator_rows oper.Remote g) (free_remote g)
+listed_operator (oper.Service port on) g = floor_listed (operator_rows (oper.Service port on) g) (service_are on port.0)
+listed_operator (oper.Access port auto) g = floor_listed (operator_rows (oper.Access port auto) g) (access_are auto port.0)
+listed_operator (oper.Clear alid) g = tt
+listed_operator (oper.Up number) g = floor_listed (operator_rows (oper.Up number) g) (module_are 10 number.0)
+listed_operator (oper.Lost sub) g = floor_listed (operator_rows (oper.Lost sub) g) (lost_are sub g.floor)
+listed_operator (oper.Job job word) g = floor_listed (operator_rows (oper.Job job word) g) (command_are job word g.floor.jobs)
+listed_operator (oper.CtlJob job command) g =
+    floor_listed (operator_rows (oper.CtlJob job command) g) (control_rows_are job (command_answer job command g.floor.jobs.control.jobs) g.floor.jobs)
+listed_operator oper.Quit g = tt

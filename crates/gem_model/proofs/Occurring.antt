@@ -53,7 +53,7 @@ use Rattle.gem_model.specs.Fire.{advanced, fire_listed}
 use Rattle.gem_model.specs.Remote.{Decision, refused, goes_local, clears, decided, commands, is_local}
 use Rattle.gem_model.specs.HostMessages.{HostMessage, Gem, Shop, reply_text}
 use Rattle.gem_model.specs.Messages.{done, gem_done, shop_done, remote_done, clock_set, carrier_action_done}
-use Rattle.gem_model.specs.Direct.{answer_rows, session_end_rows, timeout_rows, operator_rows}
+use Rattle.gem_model.specs.Direct.{Are, IsListed, answer_rows, session_end_rows, timeout_rows, operator_rows}
 use Rattle.gem_model.specs.Verdict.{Verdict, Discarded, Stream9, Aborted, Answers, Taken, verdict, header_of, item_of, wants_reply, stream_of, function_of}
 use Rattle.gem_model.specs.Act.{note_answered, replied, taken, closed_by, data_act, session_ended}
 use Rattle.gem_model.specs.Due.{Due, EndOfSession, Linktest, Timeout, dues, is_due, due_done, all_done, asks_linktest}
@@ -67,6 +67,8 @@ use Rattle.control_job.specs.declared.command.CtlAct.{CtlAct}
 use Rattle.control_job.specs.declared.command.CtlAct.TheVariants.{Row, Head}
 use Rattle.transactions.specs.Endings.{answered as found_open}
 use Rattle.gem_model.proofs.Creating.{control_faultless}
+use Rattle.gem_model.proofs.FloorRows.{placing_are, removal_are, done_are, closing_are}
+use Rattle.gem_model.proofs.Listed.{are_both, listed_answer, listed_timeout, listed_ended, listed_message, are_listed, floor_listed, listed_operator}
 use Rattle.gem_model.specs.Inputs.{WritesFloor, writes_nothing, writes_arrival, writes_carrier, creates_process, creates_control, makes_head, fetches, WritesLine, keeps_line, tells_alarm, answers_note, sets_kinds, Writes, Leaves, AreFired, Fires}
 use Rattle.gem_model.specs.Occurrences.{Occurrence, RowFires, AlarmChanges, rows_among, on_listed, on_clearing, on_setting, on_placed, on_removed, on_done, on_failed, on_down, on_signal, on_decision, on_message, on_message_rows, on_taken, on_closing, on_data, on_session_end, on_host, on_switched, on_operator, on_due, on_dues, occurrences}
 use Rattle.gem_model.specs.Reported.{Reported, by_advance, by_change, by_occurrence, by_occurrences}
@@ -122,10 +124,11 @@ fired_both (f ∷ fs) gs g h k first next = (first.0, first.1, first.2, fired_bo
 
 -- ---- what is listed occurs
 
--- rows fire from the first state to the second, and of them the notes are made
+-- rows fire from the first state to the second, and of them the notes are made; of table 3 they are such as inputs fire
 record Fired (xs : List Occurrence) (g h : State) : Type 1 where
   notes : Tells g (by_occurrences xs) h
   rows : AreFired (rows_among xs) g h
+  listed : Are IsListed (rows_among xs)
 
 -- an input writes, and no row fires
 pub record Written (xs : List Occurrence) (g h : State) : Type 1 where
@@ -137,24 +140,31 @@ pub record Written (xs : List Occurrence) (g h : State) : Type 1 where
 pub record Occurs (xs : List Occurrence) (g h : State) : Type 1 where
   pub notes : Tells g (by_occurrences xs) h
   pub fires : Fires (rows_among xs) g h
+  pub listed : Are IsListed (rows_among xs)
 
 fired_then : (xs ys : List Occurrence) (g h k : State) → Fired xs g h → Fired ys h k → Fired (xs ++ ys) g k
 fired_then xs ys g h k one two = record {
   notes = tells_both xs ys g h k one.notes two.notes;
   rows = subst (λ (fs : List Firing). AreFired fs g k) (sym (rows_both xs ys)) (fired_both (rows_among xs) (rows_among ys) g h k one.rows two.rows);
+  listed = subst (Are IsListed) (sym (rows_both xs ys)) (are_both IsListed (rows_among xs) (rows_among ys) one.listed two.listed);
 }
 
 written_then : (xs ys : List Occurrence) (g h k : State) → Written xs g h → Fired ys h k → Occurs (xs ++ ys) g k
 written_then xs ys g h k one two = record {
   notes = tells_both xs ys g h k one.notes two.notes;
   fires = subst (λ (fs : List Firing). Fires fs g k) (sym (rows_behind xs ys one.rowless)) (h, one.writes, two.rows);
+  listed = subst (Are IsListed) (sym (rows_behind xs ys one.rowless)) two.listed;
 }
 
 fired_alone : (xs : List Occurrence) (g h : State) → Fired xs g h → Occurs xs g h
-fired_alone xs g h at = record { notes = at.notes; fires = (g, leaves_writes g g (leaves_same g), at.rows) }
+fired_alone xs g h at = record { notes = at.notes; fires = (g, leaves_writes g g (leaves_same g), at.rows); listed = at.listed }
 
 written_alone : (xs : List Occurrence) (g h : State) → Written xs g h → Occurs xs g h
-written_alone xs g h at = record { notes = at.notes; fires = subst (λ (fs : List Firing). Fires fs g h) (sym at.rowless) (h, at.writes, leaves_same h) }
+written_alone xs g h at = record {
+  notes = at.notes;
+  fires = subst (λ (fs : List Firing). Fires fs g h) (sym at.rowless) (h, at.writes, leaves_same h);
+  listed = subst (Are IsListed) (sym at.rowless) tt;
+}
 
 -- what is so of both ways is so of the one that was taken
 ways : (P : List Occurrence → State → Type 1) (b : Bool) (xs ys : List Occurrence) (x y : State) → P xs x → P ys y → P (if b then xs else ys) (if b then x else y)
@@ -168,6 +178,7 @@ still : (g h : State) → h.comm ≡ g.comm → h.control ≡ g.control → h.li
 still g h comm control line floor waiting = record {
   notes = tells_same g h line (λ P all waits. subst (AllByRecursion (Carries P)) (sym waiting) waits);
   rows = leaves_all g h comm control line floor;
+  listed = tt;
 }
 
 same : (g : State) → Fired [] g g
@@ -175,7 +186,7 @@ same g = still g g refl refl refl refl refl
 
 -- a frame comes that is none of a note
 framed : (g : State) (h : Header) (text : List ℕ) → sends_note h ≡ false → Fired [] g (with_frame (message_bytes h text) g)
-framed g h text other = record { notes = tells_frame_of g h text other; rows = leaves_all g (with_frame (message_bytes h text) g) refl refl refl refl }
+framed g h text other = record { notes = tells_frame_of g h text other; rows = leaves_all g (with_frame (message_bytes h text) g) refl refl refl refl; listed = tt }
 
 replied_fired : (g : State) (h : Header) (function : ℕ) (text : List ℕ) → Fired [] g (replied h function text g)
 replied_fired g h function text =
@@ -225,9 +236,9 @@ alarm_occurs g alid = written_alone (on_setting alid g) g (sets_alarm alid g) (s
 
 -- ---- rows that are listed
 
-listed_fired : (fs : List Firing) (g : State) → Fired (on_listed fs g) g (fire_listed fs g)
-listed_fired [] g = same g
-listed_fired (f ∷ fs) g = of (row_starts g f) refl (λ h. listed_fired fs h) where
+listed_fired : (fs : List Firing) → Are IsListed fs → (g : State) → Fired (on_listed fs g) g (fire_listed fs g)
+listed_fired [] are g = same g
+listed_fired (f ∷ fs) are g = of (row_starts g f) refl (λ h. listed_fired fs are.1 h) where
   k : State
   k = advanced g f
 
@@ -235,16 +246,17 @@ listed_fired (f ∷ fs) g = of (row_starts g f) refl (λ h. listed_fired fs h) w
   of true starts later = record {
     notes = tells_then g k (fire_listed fs k) (by_advance g f) (by_occurrences (on_listed fs k)) (tells_advance g f) (later k).notes;
     rows = (g, leaves_same g, starts, (later k).rows);
+    listed = (are.0, (later k).listed);
   }
   of false starts later = later g
 
 -- they fire, with nothing written
-listed_occurs : (fs : List Firing) (g : State) → Occurs (on_listed fs g) g (fire_listed fs g)
-listed_occurs fs g = fired_alone (on_listed fs g) g (fire_listed fs g) (listed_fired fs g)
+listed_occurs : (fs : List Firing) → Are IsListed fs → (g : State) → Occurs (on_listed fs g) g (fire_listed fs g)
+listed_occurs fs are g = fired_alone (on_listed fs g) g (fire_listed fs g) (listed_fired fs are g)
 
 -- they fire behind what is written
-behind_written : (xs : List Occurrence) (fs : List Firing) (g h : State) → Written xs g h → Occurs (xs ++ on_listed fs h) g (fire_listed fs h)
-behind_written xs fs g h at = written_then xs (on_listed fs h) g h (fire_listed fs h) at (listed_fired fs h)
+behind_written : (xs : List Occurrence) (fs : List Firing) → Are IsListed fs → (g h : State) → Written xs g h → Occurs (xs ++ on_listed fs h) g (fire_listed fs h)
+behind_written xs fs are g h at = written_then xs (on_listed fs h) g h (fire_listed fs h) at (listed_fired fs are h)
 
 -- ---- the ends of transactions, and of a session
 
@@ -252,7 +264,7 @@ session_fired : (g : State) → Fired (on_session_end g) g (session_ended g)
 session_fired g =
     let h : State = without_session g in
     fired_then [] (on_session_end g) g h (session_ended g)
-    (record { notes = tells_same g h refl (λ P all waits. tt); rows = leaves_all g h refl refl refl refl }) (listed_fired (session_end_rows g) h)
+    (record { notes = tells_same g h refl (λ P all waits. tt); rows = leaves_all g h refl refl refl refl; listed = tt }) (listed_fired (session_end_rows g) (are_listed (session_end_rows g) (listed_ended g)) h)
 
 -- a transaction is closed, and where it was that of the open note, that is answered
 closed_written : (one : Open) (g : State) → Written [] g (note_answered one.what (record g { transactions = taken_out (Some one) g.transactions }))
@@ -265,7 +277,7 @@ closed_written one g = of one.what where
   of what.Attempt = beside g out refl refl refl refl refl
   of (what.Note n) = record {
     notes = goes_still g.line (note_answered (what.Note n) g).line g.waiting (answered-tells n g.line) (λ P. answered-stands P n g.line);
-    writes = record { comm = refl; control = refl; line = answers_note; floor = writes_nothing };
+    writes = record { comm = refl; control = refl; line = answers_note n; floor = writes_nothing };
     rowless = refl;
   }
 
@@ -274,6 +286,7 @@ due_fired (EndOfSession cause) g = session_fired g
 due_fired Linktest g = record {
   notes = tells_frame_of g (record { session = 65535; byte2 = 0; byte3 = 0; ptype = 0; stype = 5; system = drawn g.transactions }) [] refl;
   rows = leaves_all g (asks_linktest g) refl refl refl refl;
+  listed = tt;
 }
 due_fired (Timeout one) g =
     let out : State = record g { transactions = taken_out (Some one) g.transactions } in
@@ -281,7 +294,7 @@ due_fired (Timeout one) g =
     let told : State = sends_stream9 9 about out in
     let rows : List Firing = timeout_rows one.what told in
     fired_then [] (on_listed rows told) g told (fire_listed rows told)
-    (fired_then [] [] g out told (still g out refl refl refl refl refl) (stream9_fired out 9 about)) (listed_fired rows told)
+    (fired_then [] [] g out told (still g out refl refl refl refl refl) (stream9_fired out 9 about)) (listed_fired rows (are_listed rows (listed_timeout one.what told)) told)
 
 dues_fired : (ds : List Due) (g : State) → Fired (on_dues ds g) g (all_done ds g)
 dues_fired [] g = same g
@@ -365,13 +378,13 @@ module _ (g : State) where
       let d = done g m in
       let told : State = replied h (function_of h + 1) (reply_text d.reply) d.after in
       written_then (on_message m g) (on_message_rows h d) g d.after (taken h m g) (message_written m)
-      (fired_then [] (on_message_rows h d) d.after told (taken h m g) (replied_fired d.after h (function_of h + 1) (reply_text d.reply)) (listed_fired d.rows told))
+      (fired_then [] (on_message_rows h d) d.after told (taken h m g) (replied_fired d.after h (function_of h + 1) (reply_text d.reply)) (listed_fired d.rows (listed_message m g) told))
 
   closing_occurs : (h : Header) (item : Option Data) (one : Option Open) → Occurs (on_closing h item one g) g (closed_by h item one g)
   closing_occurs h item None = fired_alone [] g g (same g)
   closing_occurs h item (Some one) =
       let told : State = note_answered one.what (record g { transactions = taken_out (Some one) g.transactions }) in
-      behind_written [] (answer_rows one.what (function_of h) item told) g told (closed_written one g)
+      behind_written [] (answer_rows one.what (function_of h) item told) (are_listed (answer_rows one.what (function_of h) item told) (listed_answer one.what (function_of h) item told)) g told (closed_written one g)
 
   data_occurs : (h : Header) (item : Option Data) (v : Verdict) → Occurs (on_data h item v g) g (data_act h item v g)
   data_occurs h item Discarded = fired_alone [] g g (same g)
@@ -406,12 +419,12 @@ module _ (g : State) where
       let ended = session_fired g in
       let h : State = session_ended g in
       let k : State = record h { quitting = true } in
-      fired_alone (on_session_end g) g k (record { notes = ended.notes; rows = fired_leaves (rows_among (on_session_end g)) g h k ended.rows (leaves_all h k refl refl refl refl) })
+      fired_alone (on_session_end g) g k (record { notes = ended.notes; rows = fired_leaves (rows_among (on_session_end g)) g h k ended.rows (leaves_all h k refl refl refl refl); listed = ended.listed })
   quit_occurs false = fired_alone [] g (record g { quitting = true }) (still g _ refl refl refl refl refl)
 
   operated_occurs : (command : OperCmd) → Occurs (on_operator command g) g (operated command g).after
   operated_occurs oper.Quit = quit_occurs (is_up g)
-  operated_occurs command = behind_written (on_switched command g) (operator_rows command (switched command g)) g (switched command g) (switched_written command)
+  operated_occurs command = behind_written (on_switched command g) (operator_rows command (switched command g)) (listed_operator command (switched command g)) g (switched command g) (switched_written command)
 
   -- ---- signals
 
@@ -419,22 +432,22 @@ module _ (g : State) where
   placed_occurs port name slots =
       let h : State = with_arrival port name slots g in
       ways (λ xs k. Occurs xs g k) (port_row_starts 3 port g) (on_listed (at_port 4 3 port) h) (on_setting (port_alarm port) g) (fire_listed (at_port 4 3 port) h) (sets_alarm (port_alarm port) g)
-      (behind_written [] (at_port 4 3 port) g h (on_floor g _ (writes_arrival port name slots))) (alarm_occurs g (port_alarm port))
+      (behind_written [] (at_port 4 3 port) (floor_listed (at_port 4 3 port) (placing_are port)) g h (on_floor g _ (writes_arrival port name slots))) (alarm_occurs g (port_alarm port))
 
   removed_occurs : (port : ℕ) → Occurs (on_removed port g) g (removed port g)
   removed_occurs port =
       ways (λ xs k. Occurs xs g k) (port_row_starts 5 port g) (on_listed (removal port) g) (on_setting (port_alarm port) g) (fire_listed (removal port) g) (sets_alarm (port_alarm port) g)
-      (listed_occurs (removal port) g) (alarm_occurs g (port_alarm port))
+      (listed_occurs (removal port) (floor_listed (removal port) (removal_are port)) g) (alarm_occurs g (port_alarm port))
 
   done_occurs : (m command : ℕ) → Occurs (on_done m command g) g (module_done m command g)
   done_occurs m command =
       let rows : List Firing = done_rows m g.floor in
       ways (λ xs k. Occurs xs g k) (is_open command (module_of m g)) (on_listed rows g) (on_setting answer_alarm g) (fire_listed rows g) (sets_alarm answer_alarm g)
-      (listed_occurs rows g) (alarm_occurs g answer_alarm)
+      (listed_occurs rows (floor_listed rows (done_are m g.floor)) g) (alarm_occurs g answer_alarm)
 
   -- the alarm of a module is set, and then rows fire
   closed_occurs : (row m : ℕ) → Occurs (on_setting (module_alarm m) g ++ on_listed (closing_rows row m g.floor) (sets_alarm (module_alarm m) g)) g (fire_listed (closing_rows row m g.floor) (sets_alarm (module_alarm m) g))
-  closed_occurs row m = behind_written (on_setting (module_alarm m) g) (closing_rows row m g.floor) g (sets_alarm (module_alarm m) g) (set_written g (module_alarm m))
+  closed_occurs row m = behind_written (on_setting (module_alarm m) g) (closing_rows row m g.floor) (floor_listed (closing_rows row m g.floor) (closing_are row m g.floor)) g (sets_alarm (module_alarm m) g) (set_written g (module_alarm m))
 
   failed_occurs : (m command : ℕ) → Occurs (on_failed m command g) g (module_failed m command g)
   failed_occurs m command = ways (λ xs k. Occurs xs g k) (is_open command (module_of m g)) _ (on_setting answer_alarm g) _ (sets_alarm answer_alarm g) (closed_occurs 8 m) (alarm_occurs g answer_alarm)
@@ -457,7 +470,7 @@ module _ (g : State) where
 behind_link : (g : State) (h : Header) (xs : List Occurrence) (k : State) → Occurs xs (linked g h) k → Occurs xs g k
 behind_link g h xs k at =
     let are = at.fires in
-    record { notes = at.notes; fires = (are.0, record { comm = are.1.comm; control = are.1.control; line = are.1.line; floor = are.1.floor }, are.2) }
+    record { notes = at.notes; fires = (are.0, record { comm = are.1.comm; control = are.1.control; line = are.1.line; floor = are.1.floor }, are.2); listed = at.listed }
 
 -- ---- an event
 
@@ -479,7 +492,7 @@ module _ (before : ℕ) (g : State) (o : Outcome) where
   frame_occurs [] are here = none_some o here
   frame_occurs (frame ∷ frames) are here =
       let h : State = record g { waiting = frames } in
-      quiet _ here (record { notes = tells_same g h refl (λ P all waits. (subst (AllByRecursion (Carries P)) are waits).1); rows = leaves_all g h refl refl refl refl })
+      quiet _ here (record { notes = tells_same g h refl (λ P all waits. (subst (AllByRecursion (Carries P)) are waits).1); rows = leaves_all g h refl refl refl refl; listed = tt })
 
   fetch_occurs : (m : ℕ) (command : Option Command) → command_out g m command ≡ Some o → Occurs [] g o.after
   fetch_occurs m None here = none_some o here

@@ -6,18 +6,19 @@ use Rattle.gem_tables.specs.Table.{firing}
 use Rattle.gem_tables.specs.declared.firing.Firing.{Firing}
 use Rattle.floor_model.specs.Machines.{floor_least, is_creation}
 use Rattle.floor_model.proofs.Keeping.{AreCreations}
-use Rattle.gem_model.specs.State.{State}
+use Rattle.note_line.specs.Table3 as table3
+use Rattle.gem_model.specs.State.{State, around}
 use Rattle.gem_model.specs.Fire.{fire, fire_all}
 use Rattle.gem_model.specs.Machines.{least, creations}
 use Rattle.gem_model.specs.Ready.{ready_line, ready_floor}
-use Rattle.gem_model.specs.Settle.{Path, Along}
+use Rattle.gem_model.specs.Settle.{Path, Along, EachFiring}
 use Rattle.gem_model.proofs.Effects.{asks_host, gives_up, least_is}
-use Rattle.gem_model.proofs.FloorRows.{created_are, creates_no_more}
+use Rattle.gem_model.proofs.FloorRows.{created_are, creates_no_more, ready_is}
 use Rattle.gem_model.proofs.LineRows.{line_went}
-use Rattle.gem_model.proofs.Tests.{went, or_went}
+use Rattle.gem_model.proofs.Tests.{went, or_went, none_some}
 
 -- the rows that are due behind a row of a created object are those that were due behind it
-due_are : (g : State) (d : Firing) (due : List Firing) → is_creation d ≡ true → AreCreations due → AreCreations (creations g d ++ due)
+pub due_are : (g : State) (d : Firing) (due : List Firing) → is_creation d ≡ true → AreCreations due → AreCreations (creations g d ++ due)
 due_are g d due is are = subst (λ (ds : List Firing). AreCreations (ds ++ due)) (sym (creates_no_more g d is)) are
 
 -- what each firing of a path keeps holds at its end
@@ -47,6 +48,37 @@ pub along_at : (Fact : State → Type 0) (before behind : List Firing) (g : Stat
 along_at Fact [] [] g along = along
 along_at Fact [] (f ∷ fs) g along = along.0
 along_at Fact (y ∷ before) behind g along = along_at Fact before behind (fire g y) along.1
+
+-- where each firing of a path is so in the state in which it fires, by what the ones before it keep, all are
+pub path_each : (P : State → Type 0) (Is : State → Firing → Type 0)
+    → ((g : State) (f : Firing) → least g ≡ Some f → P g → Is g f × P (fire g f)) → ((g : State) (d : Firing) → is_creation d ≡ true → P g → Is g d × P (fire g d))
+    → (due fs : List Firing) → AreCreations due → (g h : State) → Path g due fs h → P g → EachFiring Is g fs
+path_each P Is ready creates [] [] are g h path at = tt
+path_each P Is ready creates [] (f ∷ fs) are g h path at =
+    let here = ready g f path.0 at in
+    (here.0, path_each P Is ready creates (creations g f) fs (created_are g f) (fire g f) h path.1 here.1)
+path_each P Is ready creates (d ∷ due) [] are g h path at = absurd path
+path_each P Is ready creates (d ∷ due) (f ∷ fs) are g h path at =
+    let here = creates g d are.0 at in
+    subst (λ (x : Firing). EachFiring Is g (x ∷ fs)) (sym path.0)
+    (here.0, path_each P Is ready creates (creations g d ++ due) fs (due_are g d due are.0 are.1) (fire g d) h path.1 here.1)
+
+-- ---- the least row
+
+-- it is a row of the line of notes, or one of another table than 3
+pub line_or_other : (P : Firing → Type 0) (g : State) (f : Firing) → least g ≡ Some f → ((row : ℕ) → table3.least (around g) g.line ≡ Some row → P (firing 3 0 row)) → ((f.row.table == 3) ≡ false → P f) → P f
+line_or_other P g f ready at_line other =
+    or_went (asks_host g) (option_or (gives_up g) (option_or (ready_line g) (ready_floor g))) f
+    (λ at. went _ _ _ _ (λ over e. elsewhere (firing 1 0 3) refl e) (λ _ e. none_some f e) at)
+    (λ _ behind. or_went (gives_up g) (option_or (ready_line g) (ready_floor g)) f
+    (λ at. went _ _ _ _ (λ can e. elsewhere (firing 2 0 2) refl e) (λ _ e. none_some f e) at)
+    (λ _ last. or_went (ready_line g) (ready_floor g) f
+    (λ at. line_went g f (λ row is e. subst P e (at_line row is)) at)
+    (λ _ at. other (ready_is g f at).not_3) last) behind)
+    (sym (least_is g) ∙ ready)
+  where
+    elsewhere : (one : Firing) → (one.row.table == 3) ≡ false → Some one ≡ Some f → P f
+    elsewhere one not_3 e = let same : one ≡ f = cc in other (subst (λ (x : Firing). (x.row.table == 3) ≡ false) same not_3)
 
 -- ---- a row of the floor that is the least
 

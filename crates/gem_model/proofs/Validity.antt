@@ -1,7 +1,7 @@
 -- Every state that a history leads to is valid.
-use Rattle.std.proofs.Common.{◌≡◌, ◌==◌, ℕ, Bool, true, false, ◌&&◌, if◌then◌else◌, List, [], ◌∷◌, ◌++◌, ◌≤◌, length, arith, Option, Some, None, option_map, refl, sym, ◌∙◌, ap, subst}
+use Rattle.std.proofs.Common.{◌≡◌, ℕ, ◌+◌, Bool, true, false, ◌&&◌, if◌then◌else◌, List, [], ◌∷◌, ◌++◌, ◌≤◌, length, arith, Option, Some, None, option_map, refl, sym, ◌∙◌, ap, subst}
 use Rattle.std.specs.List.{AllByRecursion}
-use Rattle.std.specs.Option.{option_or, option_to_list}
+use Rattle.std.specs.Option.{option_or}
 use Rattle.hsms_link.specs.declared.state.Phase.{Phase}
 use Rattle.hsms_link.specs.declared.state.Phase.TheVariants.{Down, NotSelected, Selected}
 use Rattle.hsms_link.specs.Links as links
@@ -15,17 +15,16 @@ use Rattle.tool_events.specs.declared.config.ControlStart.{ControlStart}
 use Rattle.tool_events.specs.declared.config.ControlStart.TheVariants as begin
 use Rattle.tool_events.specs.declared.entry.Entry.{Entry}
 use Rattle.tool_events.specs.declared.event.Event.{Event}
-use Rattle.std.proofs.lemmas.Bool.Decides.{nat_tests}
 use Rattle.note_line.specs.declared.fate.Fate.{Fate}
-use Rattle.note_line.specs.declared.fate.Fate.TheVariants.{Open}
-use Rattle.note_line.specs.Fates.{LineValid, KeepsFates, is_ended}
-use Rattle.spool.specs.declared.note.Note.{Note}
+use Rattle.note_line.specs.declared.fate.Fate.TheVariants.{Answered, Open, Waiting, Spooled, Dropped}
+use Rattle.note_line.specs.Fates.{LineValid, KeepsFates, is_ended, is_open, passes, one_if}
+use Rattle.note_line.specs.Limits.{most_open}
 use Rattle.spool.specs.Spool.{is_inactive, has_note}
 use Rattle.note_line.specs.Table3 as table
 use Rattle.note_line.specs.Line.{Line, fate_of}
-use Rattle.note_line.specs.Order.{Pairwise}
-use Rattle.note_line.proofs.Keeps.{Keeps, fates-same, fates-trans, opening-valid, quiet_first, open_is_open}
-use Rattle.note_line.proofs.Sendings.{never-back}
+use Rattle.note_line.proofs.Keeps.{Keeps, fates-same, fates-trans, opening-valid, quiet_first}
+use Rattle.note_line.proofs.Lists.{all_joined}
+use Rattle.note_line.proofs.Places.{none_counted}
 use Rattle.gem_model.specs.State.{State, opening, around, is_up, is_selected, raised, first_control, first_kinds}
 use Rattle.gem_model.specs.Fire.{fire}
 use Rattle.gem_model.specs.Machines.{creations, least}
@@ -34,7 +33,7 @@ use Rattle.gem_model.specs.Ready.{ready_line, ready_floor}
 use Rattle.gem_model.proofs.Effects.{asks_host, gives_up, least_is}
 use Rattle.gem_model.specs.Settle.{Path, settled, settling, Along}
 use Rattle.gem_model.specs.Step.{Outcome, step, step_from, acts, settles}
-use Rattle.gem_model.specs.OpenNotes.{NotBelow, NeverBack, IsOther, open_behind}
+use Rattle.gem_model.specs.OpenNotes.{IsOther, open_behind}
 use Rattle.gem_model.specs.Run.{Run}
 use Rattle.gem_model.specs.Valid.{Valid}
 use Rattle.floor_model.proofs.Keeping.{opening_quiet}
@@ -42,7 +41,8 @@ use Rattle.gem_model.proofs.Tests.{went, none_some}
 use Rattle.gem_model.proofs.Settling.{settles_so}
 use Rattle.gem_model.proofs.Runs.{after-step}
 use Rattle.gem_model.proofs.Steps.{step_keeps-from}
-use Rattle.gem_model.proofs.Lined.{keeps-same, lined-step, lined-step-at}
+use Rattle.gem_model.proofs.Lined.{Lined, keeps-same, lined_at, lined_kept, lined-step, lined-step-at}
+use Rattle.gem_model.proofs.Walk.{Any, kept_acts}
 use Rattle.gem_model.proofs.Room.{Few, few-step, few-open, few-room, few-acts, few-along}
 
 -- at the end of a path no row is ready
@@ -157,7 +157,7 @@ opening_valid c = record {
   establish = omega arith;
   attempt = omega arith;
   note = omega arith;
-  line = opening-valid c.spool_capacity (first_kinds c.spool_streams);
+  line = opening-valid c.spool_capacity c.window (first_kinds c.spool_streams);
 }
 
 pub run_valid : (g : State) (entries : List Entry) (h : State) → Valid g → Run g entries h → Valid h
@@ -168,23 +168,13 @@ run_valid g (e ∷ entries) h valid run = run_valid run.0.after entries h (step_
 run-few : (c : Config) (entries : List Entry) (h : State) → Run (opening c) entries h → Few h
 run-few c entries h run = valid-few h (run_valid (opening c) entries h (opening_valid c) run)
 
-pub run-open : (c : Config) (entries : List Entry) (h : State) → Run (opening c) entries h → length h.transactions.opened ≤ 2
-run-open c entries h run = few-open h (run-few c entries h run)
-
 -- the line of notes goes on over a run: what became of a note stays, and so does what it told of
 pub run-fates : (g : State) (entries : List Entry) (h : State) → LineValid g.line → Run g entries h → Keeps g.line h.line
 run-fates g [] h line run = subst (λ (k : State). Keeps g.line k.line) (sym run) (keeps-same g.line line)
 run-fates g (e ∷ entries) h line run =
     let one = lined-step-at g e.at.0 e.event run.0 run.1 line in
     let rest = run-fates run.0.after entries h one.valid run.2 in
-    record { valid = rest.valid; fates = fates-trans g.line run.0.after.line h.line one.fates rest.fates }
-
-pub run-room : (c : Config) (entries : List Entry) (h : State) → Run (opening c) entries h → is_full h.transactions ≡ false
-run-room c entries h run = few-room h (run-few c entries h run)
-
--- and so it does while the tool settles behind an event
-pub run-along : (c : Config) (entries : List Entry) (h : State) (at : ℕ) (e : Event) (o : Outcome) → Run (opening c) entries h → acts h.moment (raised h at) e ≡ Some o → Along (λ (g : State). is_full g.transactions ≡ false) o.after (settling o.after)
-run-along c entries h at e o run here = few-along o.after (few-acts h.moment (raised h at) e o (run-few c entries h run) here)
+    record { valid = rest.valid; fates = fates-trans g.line run.0.after.line h.line one.fates rest.fates; window = rest.window ∙ one.window }
 
 -- where a history leads, the line of notes is valid
 pub run-line : (c : Config) (entries : List Entry) (h : State) → Run (opening c) entries h → LineValid h.line
@@ -193,6 +183,37 @@ run-line c entries h run = (run_valid (opening c) entries h (opening_valid c) ru
 -- and from then on what became of a note stays
 pub run-stays : (c : Config) (front behind : List Entry) (g h : State) → Run (opening c) front g → Run g behind h → KeepsFates g.line h.line
 run-stays c front behind g h before after = (run-fates g behind h (run-line c front g before) after).fates
+
+-- as many notes may be open as the configuration says, and no more are
+pub run-window : (c : Config) (entries : List Entry) (h : State) → Run (opening c) entries h → h.line.window ≡ c.window
+run-window c entries h run = (run-fates (opening c) entries h (opening_valid c).line run).window
+
+pub run-within : (c : Config) (entries : List Entry) (h : State) → Run (opening c) entries h → length h.line.opened ≤ c.window
+run-within c entries h run =
+    let within : length h.line.opened ≤ h.line.window = (run-line c entries h run).within in
+    let same = run-window c entries h run in
+    omega (arith, within, same)
+
+-- so a transaction more is open at most than notes may be, and there is room for one
+pub run-open : (c : Config) (entries : List Entry) (h : State) → Run (opening c) entries h → length h.transactions.opened ≤ c.window + 1
+run-open c entries h run =
+    let few = few-open h (run-few c entries h run) in
+    let within = run-within c entries h run in
+    omega (arith, few, within)
+
+pub run-ten : (c : Config) (entries : List Entry) (h : State) → c.window ≤ most_open → Run (opening c) entries h → length h.transactions.opened ≤ 10
+run-ten c entries h most run = let few = run-open c entries h run in omega (arith, few, most)
+
+pub run-room : (c : Config) (entries : List Entry) (h : State) → c.window ≤ most_open → Run (opening c) entries h → is_full h.transactions ≡ false
+run-room c entries h most run = let within = run-within c entries h run in few-room h (run-few c entries h run) (omega (arith, within, most))
+
+-- and so there is while the tool settles behind an event
+pub run-along : (c : Config) (entries : List Entry) (h : State) (at : ℕ) (e : Event) (o : Outcome) → c.window ≤ most_open → Run (opening c) entries h → acts h.moment (raised h at) e ≡ Some o → Along (λ (g : State). is_full g.transactions ≡ false) o.after (settling o.after)
+run-along c entries h at e o most run here =
+    let keeps = (kept_acts Any (Lined h) (lined_kept h) h.moment (raised h at) e o tt (lined_at h) here) (run-line c entries h run) in
+    let same = run-window c entries h run in
+    let then_ = keeps.window in
+    few-along o.after (few-acts h.moment (raised h at) e o (run-few c entries h run) here) keeps.valid (omega (arith, most, same, then_))
 
 -- where no row is ready, none of the line is
 none_ready : (first second third last : Option Firing) → option_or first (option_or second (option_or third last)) ≡ None → third ≡ None
@@ -215,66 +236,27 @@ run-empty c entries h run inactive =
     let quiet = no_row (table.least (around h) h.line) (none_ready (asks_host h) (gives_up h) (ready_line h) (ready_floor h) (sym (least_is h) ∙ valid.settled)) in
     inactive_empty _ _ (quiet_first (around h) h.line quiet) inactive
 
--- ---- sendings of one kind never go back
-
--- with the note that is open behind an entry, where one is
-all_with : (earlier : Note) (opened : Option Note) (notes : List Note) → ((later : Note) → opened ≡ Some later → NotBelow earlier later) → AllByRecursion (NotBelow earlier) notes → AllByRecursion (NotBelow earlier) (option_to_list opened ++ notes)
-all_with earlier None notes is rest = rest
-all_with earlier (Some later) notes is rest = (is later refl, rest)
-
-pairs_with : (opened : Option Note) (notes : List Note) → ((earlier : Note) → opened ≡ Some earlier → AllByRecursion (NotBelow earlier) notes) → Pairwise NotBelow notes → Pairwise NotBelow (option_to_list opened ++ notes)
-pairs_with None notes is rest = rest
-pairs_with (Some earlier) notes is rest = (is earlier refl, rest)
-
--- a note that was open is not above those of its kind that are open behind later entries
-never_above : (l : Line) (earlier : Note) → LineValid l → l.opened ≡ Some earlier → (g : State) (entries : List Entry) (h : State) → LineValid g.line → KeepsFates l g.line → Run g entries h → AllByRecursion (NotBelow earlier) (open_behind g entries)
-never_above l earlier valid was g [] h line keeps run = tt
-never_above l earlier valid was g (e ∷ entries) h line keeps run =
-    let one = lined-step-at g e.at.0 e.event run.0 run.1 line in
-    let all = fates-trans l g.line run.0.after.line keeps one.fates in
-    subst (λ (k : State). AllByRecursion (NotBelow earlier) (option_to_list k.line.opened ++ open_behind k entries)) (sym (after-step g e.at.0 e.event run.0 run.1))
-    (all_with earlier run.0.after.line.opened (open_behind run.0.after entries)
-    (λ later is. never-back l run.0.after.line earlier later valid one.valid all was is)
-    (never_above l earlier valid was run.0.after entries h one.valid all run.2))
-
-never_back : (g : State) (entries : List Entry) (h : State) → LineValid g.line → Run g entries h → NeverBack g entries
-never_back g [] h line run = tt
-never_back g (e ∷ entries) h line run =
-    let one = lined-step-at g e.at.0 e.event run.0 run.1 line in
-    subst (λ (k : State). Pairwise NotBelow (option_to_list k.line.opened ++ open_behind k entries)) (sym (after-step g e.at.0 e.event run.0 run.1))
-    (pairs_with run.0.after.line.opened (open_behind run.0.after entries)
-    (λ earlier is. never_above run.0.after.line earlier one.valid is run.0.after entries h one.valid (fates-same run.0.after.line) run.2)
-    (never_back run.0.after entries h one.valid run.2))
-
-pub run-sendings : (c : Config) (entries : List Entry) (h : State) → Run (opening c) entries h → NeverBack (opening c) entries
-run-sendings c entries h run = never_back (opening c) entries h (opening_valid c).line run
-
 -- ---- a note that ended is not sent again
 
--- the open note is another one than a note that has ended
-other_open : (l : Line) (number : ℕ) (fate : Fate) → LineValid l → fate_of number l.told ≡ Some fate → is_ended fate ≡ true → (later : Note) → l.opened ≡ Some later → IsOther number later
-other_open l number fate valid was ended later is = by_test (later.number == number) refl where
-  by_test : (b : Bool) → (later.number == number) ≡ b → IsOther number later
-  by_test false q = q
-  by_test true q =
-      let same : later.number ≡ number = grind (arith, nat_tests) in
-      let opened : fate_of number l.told ≡ Some Open = subst (λ (n : ℕ). fate_of n l.told ≡ Some Open) same (open_is_open l later is valid) in
-      let both : Some fate ≡ Some Open = sym was ∙ opened in
-      let open_is : fate ≡ Open = cc in
-      absurd (let no : is_ended Open ≡ true = subst (λ (f : Fate). is_ended f ≡ true) open_is ended in cc)
-
-others_with : (number : ℕ) (opened : Option Note) (notes : List Note) → ((later : Note) → opened ≡ Some later → IsOther number later) → AllByRecursion (IsOther number) notes → AllByRecursion (IsOther number) (option_to_list opened ++ notes)
-others_with number None notes is rest = rest
-others_with number (Some later) notes is rest = (is later refl, rest)
+-- each open note is another one than a note that has ended
+others_open : (l : Line) (number : ℕ) (fate : Fate) → LineValid l → fate_of number l.told ≡ Some fate → is_ended fate ≡ true → AllByRecursion (IsOther number) l.opened
+others_open l number fate valid was ended =
+    none_counted number l.opened (valid.fated.opened number ∙ ap (λ (f : Option Fate). one_if (passes is_open f)) was ∙ ap one_if (not_open fate ended))
+  where
+    not_open : (f : Fate) → is_ended f ≡ true → is_open f ≡ false
+    not_open Answered e = refl
+    not_open Open e = absurd (cc)
+    not_open Waiting e = refl
+    not_open Spooled e = refl
+    not_open (Dropped cause) e = refl
 
 never_again : (l : Line) (number : ℕ) (fate : Fate) → fate_of number l.told ≡ Some fate → is_ended fate ≡ true → (g : State) (entries : List Entry) (h : State) → LineValid g.line → KeepsFates l g.line → Run g entries h → AllByRecursion (IsOther number) (open_behind g entries)
 never_again l number fate was ended g [] h line keeps run = tt
 never_again l number fate was ended g (e ∷ entries) h line keeps run =
     let one = lined-step-at g e.at.0 e.event run.0 run.1 line in
     let all = fates-trans l g.line run.0.after.line keeps one.fates in
-    subst (λ (k : State). AllByRecursion (IsOther number) (option_to_list k.line.opened ++ open_behind k entries)) (sym (after-step g e.at.0 e.event run.0 run.1))
-    (others_with number run.0.after.line.opened (open_behind run.0.after entries)
-    (λ later is. other_open run.0.after.line number fate one.valid (all.ended number fate was ended) ended later is)
+    subst (λ (k : State). AllByRecursion (IsOther number) (k.line.opened ++ open_behind k entries)) (sym (after-step g e.at.0 e.event run.0 run.1))
+    (all_joined (IsOther number) run.0.after.line.opened (open_behind run.0.after entries) (others_open run.0.after.line number fate one.valid (all.ended number fate was ended) ended)
     (never_again l number fate was ended run.0.after entries h one.valid all run.2))
 
 pub run-ended : (c : Config) (front behind : List Entry) (g h : State) (number : ℕ) (fate : Fate) → Run (opening c) front g → Run g behind h → fate_of number g.line.told ≡ Some fate → is_ended fate ≡ true → AllByRecursion (IsOther number) (open_behind g behind)

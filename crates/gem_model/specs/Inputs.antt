@@ -28,12 +28,12 @@ pub data WritesFloor (f : ToolFloor) : ToolFloor → Type 0 where
   makes_head : (name : List ℕ) → WritesFloor f (with_jobs (record f.jobs { control = headed name f.jobs.control }) f)
   fetches : (number : ℕ) → WritesFloor f (fetched number f)
 
--- What it writes in the line of notes: nothing; that an alarm changed; that the open note was answered; or which kinds of note are
--- spooled.
+-- What it writes in the line of notes: nothing; that an alarm changed; that the open note of a number was answered; or which kinds of
+-- note are spooled.
 pub data WritesLine (l : Line) : Line → Type 0 where
   keeps_line : WritesLine l l
   tells_alarm : (alid : ℕ) (text : List ℕ) → WritesLine l (noted Alarm alid text l)
-  answers_note : WritesLine l (answered l)
+  answers_note : (number : ℕ) → WritesLine l (answered number l)
   sets_kinds : (kinds : SpooledKinds) → WritesLine l (with_kinds kinds l)
 
 -- it writes so, and leaves communication and control; of all else that it writes no table speaks

@@ -26,6 +26,7 @@ pub mod Run
 pub mod OpenNotes
 pub mod Inputs
 pub mod Occurrences
+pub mod Sendings
 pub mod Reported
 pub mod Sessions
 pub mod Sizes

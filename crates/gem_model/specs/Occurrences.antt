@@ -15,6 +15,7 @@ use Rattle.event_reports.specs.Alarms.{is_alarm, is_set, set_alarm, clear_alarm}
 use Rattle.shop_floor.specs.Requests.{at_port, removal}
 use Rattle.robot_moves.specs.Modules.{is_open, is_up as is_up_module}
 use Rattle.floor_model.specs.Signals.{done_rows, closing_rows}
+use Rattle.tool_events.specs.declared.entry.Entry.{Entry}
 use Rattle.tool_events.specs.declared.event.Signal.{Signal}
 use Rattle.tool_events.specs.declared.event.Signal.TheVariants as equipment
 use Rattle.tool_events.specs.declared.event.Event.{Event}
@@ -24,7 +25,7 @@ use Rattle.tool_events.specs.declared.event.OperCmd.TheVariants as oper
 use Rattle.transactions.specs.declared.transaction.Open.{Open}
 use Rattle.transactions.specs.Table.{taken_out}
 use Rattle.transactions.specs.Endings.{answered}
-use Rattle.gem_model.specs.State.{State, is_up, is_session_up, without_session}
+use Rattle.gem_model.specs.State.{State, is_up, is_session_up, without_session, raised}
 use Rattle.gem_model.specs.Sending.{data_header, sends_stream9}
 use Rattle.gem_model.specs.Noting.{sets_alarm}
 use Rattle.gem_model.specs.Machines.{row_starts}
@@ -183,3 +184,7 @@ occurrences before g (event.Oper command) = on_operator command g
 occurrences before g (event.Signal signal) = on_signal signal g
 occurrences before g event.Tick = if is_due before g then on_dues (dues g) g else []
 occurrences before g _ = []
+
+-- the input of an entry fires these, before the tool settles, in order; none once the run has ended
+abbrev pub rows_of_input : State → Entry → List Firing
+rows_of_input g entry = if g.quitting then [] else rows_among (occurrences g.moment (raised g entry.at.0) entry.event)

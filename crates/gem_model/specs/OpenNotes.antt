@@ -1,22 +1,16 @@
 -- Which notes are open, and which frames send them (this tool's profile, notes).
-use Rattle.std.specs.Prelude.{ℕ, ◌+◌, ◌==◌, ◌≡◌, ◌≤◌, Bool, true, false, ◌&&◌, ◌||◌, if◌then◌else◌, List, [], ◌∷◌, ◌++◌, Option, None, Some}
+use Rattle.std.specs.Prelude.{ℕ, ◌+◌, ◌==◌, ◌≡◌, Bool, true, false, ◌&&◌, ◌||◌, List, [], ◌∷◌, ◌++◌}
 use Rattle.hsms_frame.specs.declared.frame.Header.{Header}
 use Rattle.hsms_frame.specs.Spelling.{message_bytes}
 use Rattle.spool.specs.declared.note.Note.{Note}
-use Rattle.gem_tables.specs.declared.firing.Firing.{Firing}
 use Rattle.note_line.specs.Line.{Line}
-use Rattle.note_line.specs.Table3.{sends}
 use Rattle.note_line.specs.Failing.{numbers}
-use Rattle.note_line.specs.Order.{Pairwise, NotBelow, Between}
 use Rattle.tool_events.specs.declared.entry.Entry.{Entry}
 use Rattle.transactions.specs.declared.transaction.Open.{Open}
 use Rattle.transactions.specs.declared.transaction.What.{What}
 use Rattle.transactions.specs.declared.transaction.What.TheVariants as what
 use Rattle.transactions.specs.SystemBytes.{drawn}
-use Rattle.gem_model.specs.State.{State, raised}
-use Rattle.gem_model.specs.Fire.{fire}
-use Rattle.gem_model.specs.Settle.{settling}
-use Rattle.gem_model.specs.Step.{Outcome, acts}
+use Rattle.gem_model.specs.State.{State}
 use Rattle.gem_model.specs.Sending.{data_frame}
 use Rattle.gem_model.specs.Effects.{stream_of_kind, function_of_kind}
 use Rattle.gem_model.specs.Run.{entry_after}
@@ -66,34 +60,6 @@ pub record IsSent (note : Note) (g h : State) : Type 0 where
 abbrev pub open_behind : State → List Entry → List Note
 open_behind g [] = []
 open_behind g (entry ∷ entries) = (entry_after g entry).line.opened ++ open_behind (entry_after g entry) entries
-
--- the note that a firing sends, if it sends one
-abbrev pub sent_by : State → Firing → List Note
-sent_by g f = if f.row.table == 3 then sends f.row.row g.line else []
-
--- the notes that these firings send, one after another
-abbrev pub sent_along : State → List Firing → List Note
-sent_along g [] = []
-sent_along g (f ∷ fs) = sent_by g f ++ sent_along (fire g f) fs
-
--- the notes that the step of an entry sends, while the tool settles behind its event
-abbrev pub sent_in : Option Outcome → List Note
-sent_in None = []
-sent_in (Some o) = sent_along o.after (settling o.after)
-
--- the sendings of these entries, in order; a note that is sent again stands again
-abbrev pub sendings : State → List Entry → List Note
-sendings g [] = []
-sendings g (entry ∷ entries) = sent_in (acts g.moment (raised g entry.at.0) entry.event) ++ sendings (entry_after g entry) entries
-
--- each note that these firings send is the least of its kind among those that are spooled or wait where it is sent
-abbrev pub AreLeast : State → List Firing → Type 0
-AreLeast g [] = Unit {0}
-AreLeast g (f ∷ fs) = Between NotBelow (sent_by g f) (g.line.spool.notes ++ g.line.waiting) × AreLeast (fire g f) fs
-
--- sendings of one kind never go back to a lower number, where one note may be open at once (this tool's profile, notes)
-abbrev pub NeverBack : State → List Entry → Type 0
-NeverBack g entries = Pairwise NotBelow (sendings g entries)
 
 -- a note has another number than this
 abbrev pub IsOther : ℕ → Note → Type 0

@@ -1,8 +1,12 @@
 -- Histories: the steps of their entries, one after another.
-use Rattle.std.specs.Prelude.{◌≡◌, List, [], ◌∷◌, ◌++◌, Option, Some, None}
+use Rattle.std.specs.Prelude.{◌≡◌, if◌then◌else◌, List, [], ◌∷◌, ◌++◌, Option, Some, None}
 use Rattle.tool_events.specs.declared.entry.Entry.{Entry}
-use Rattle.gem_model.specs.State.{State}
-use Rattle.gem_model.specs.Step.{Outcome, step, after}
+use Rattle.gem_model.specs.State.{State, raised}
+use Rattle.gem_model.specs.Step.{Outcome, acts, step, after}
+
+-- what the input of an entry does, before the tool settles; nothing once the run has ended
+abbrev pub input_of : State → Entry → Option Outcome
+input_of g entry = if g.quitting then None else acts g.moment (raised g entry.at.0) entry.event
 
 -- the step of an entry
 abbrev pub entry_step : State → Entry → Option Outcome

@@ -35,3 +35,8 @@ settled g = fire_all (settling g) g
 abbrev pub Along : (State → Type 0) → State → List Firing → Type 0
 Along Fact g [] = Fact g
 Along Fact g (f ∷ fs) = Fact g × Along Fact (fire g f) fs
+
+-- a fact holds of each of these firings, in the state in which it fires
+abbrev pub EachFiring : (State → Firing → Type 0) → State → List Firing → Type 0
+EachFiring Fact g [] = Unit {0}
+EachFiring Fact g (f ∷ fs) = Fact g f × EachFiring Fact (fire g f) fs

@@ -1,6 +1,6 @@
 //! Laws of the definitions, for proofs to cite. Each function is empty: what it ensures holds of the definitions.
 
-ghost use Rattle.std.specs.Prelude.{◌≡◌, ℕ, ◌≤◌, true, false, List, ◌∷◌, ◌++◌, length, map, Some, None};
+ghost use Rattle.std.specs.Prelude.{◌≡◌, ℕ, ◌≤◌, ◌+◌, true, false, List, [], ◌∷◌, ◌++◌, length, map, Some};
 ghost use Rattle.std.specs.List.{AllByRecursion};
 ghost use Rattle.transactions.specs.Table.{is_full};
 ghost use Rattle.tool_events.specs.declared.config.Config.{Config};
@@ -10,9 +10,12 @@ ghost use Rattle.gem_tables.specs.declared.firing.Firing.{Firing};
 ghost use Rattle.gem_model.specs.State.{State, opening, raised};
 ghost use Rattle.gem_model.specs.Settle.{Settles, settling, settled, Along};
 ghost use Rattle.gem_model.specs.Step.{Outcome, acts};
-ghost use Rattle.gem_model.specs.Run.{Run};
+ghost use Rattle.gem_model.specs.Run.{Run, input_of};
+ghost use Rattle.gem_model.specs.Direct.{Are, IsListed};
+ghost use Rattle.gem_model.specs.Occurrences.{rows_of_input};
 ghost use Rattle.gem_model.specs.Reported.{told_as, reported_in, IsOf};
-ghost use Rattle.gem_model.specs.OpenNotes.{note_numbers, open_number, Carries, IsSent, IsOther, open_behind, frames_behind, NeverBack};
+ghost use Rattle.gem_model.specs.OpenNotes.{note_numbers, open_numbers, Carries, IsSent, IsOther, open_behind, frames_behind};
+ghost use Rattle.gem_model.specs.Sendings.{sendings, turns, EachLeast, FirstsInOrder, NeverBack, FailsBetween};
 ghost use Rattle.gem_model.specs.Fire.{fire};
 ghost use Rattle.gem_tables.specs.Table.{firing};
 ghost use Rattle.spool.specs.declared.note.Note.{Note};
@@ -20,17 +23,23 @@ ghost use Rattle.spool.specs.Spool.{is_inactive, has_note};
 ghost use Rattle.note_line.specs.declared.fate.Fate.{Fate};
 ghost use Rattle.note_line.specs.Line.{standing, fate_of};
 ghost use Rattle.note_line.specs.Fates.{LineValid, KeepsFates, is_ended, tells};
+ghost use Rattle.note_line.specs.Limits.{most_open};
 ghost use Rattle.load_port.specs.Ports.{most_ports};
 ghost use Rattle.carrier.specs.Carriers.{most_carriers};
 ghost use Rattle.shop_floor.specs.Valid.{IsFloor};
 
-/// A primary of the tool always finds room among the open transactions: where a history leads, at most two are open, of the
-/// sixteen that can be; and there is room in each state that the tool passes while it settles behind an event.
+/// A primary of the tool always finds room among the open transactions: where a history leads, at most one more is open than notes may
+/// be, and so at most ten, of the sixteen that can be; and there is room in each state that the tool passes while it settles behind an
+/// event.
 pub fn no_start_meets_a_full_table()
-    ensures room { (c : Config) (entries : List Entry) (h : State) → Run (opening c) entries h → is_full h.transactions ≡ false }
-    ensures two_open { (c : Config) (entries : List Entry) (h : State) → Run (opening c) entries h → length h.transactions.opened ≤ 2 }
+    ensures room { (c : Config) (entries : List Entry) (h : State)
+        → c.window ≤ most_open → Run (opening c) entries h → is_full h.transactions ≡ false }
+    ensures few_open { (c : Config) (entries : List Entry) (h : State)
+        → Run (opening c) entries h → length h.transactions.opened ≤ c.window + 1 }
+    ensures ten_open { (c : Config) (entries : List Entry) (h : State)
+        → c.window ≤ most_open → Run (opening c) entries h → length h.transactions.opened ≤ 10 }
     ensures settling { (c : Config) (entries : List Entry) (h : State) (at : ℕ) (e : Event) (o : Outcome)
-        → Run (opening c) entries h → acts h.moment (raised h at) e ≡ Some o
+        → c.window ≤ most_open → Run (opening c) entries h → acts h.moment (raised h at) e ≡ Some o
         → Along (λ (g : State). is_full g.transactions ≡ false) o.after (settling o.after) }
 {}
 
@@ -57,7 +66,7 @@ pub fn the_notes_are_what_was_reported()
 {}
 
 /// Each note has the text of what was reported under its number, so an event's has the values behind its own firing: where a
-/// history leads, each note that has not ended; behind each of its entries the note that is open; and of the frames that wait
+/// history leads, each note that has not ended; behind each of its entries the notes that are open; and of the frames that wait
 /// for the writer behind each entry, which are all that go out, each of S6F11 and S5F1 is that of such a note.
 pub fn each_note_has_the_text_of_its_own_firing()
     ensures standing { (c : Config) (entries : List Entry) (h : State)
@@ -69,23 +78,24 @@ pub fn each_note_has_the_text_of_its_own_firing()
         → AllByRecursion (Carries (IsOf (reported_in (opening c) entries))) (frames_behind (opening c) entries) }
 {}
 
-/// A note goes out as it opens, with its text. Whichever row a firing is of: where no note is open before it and one is behind
-/// it, the frame of this note comes behind those that wait for the writer. Rows 12 and 13 of table 3 do so, the one with the
-/// oldest note of the spool and the other with the head. Each start finds room, by law `no_start_meets_a_full_table`.
+/// A note goes out as it opens, with its text. Whichever row a firing is of: where it opens a note behind those that are open, the frame
+/// of this note comes behind those that wait for the writer. Rows 12 and 13 of table 3 do so, the one with the oldest note of the spool
+/// and the other with the head. Each start finds room, by law `no_start_meets_a_full_table`.
 pub fn a_note_goes_out_as_it_opens()
     ensures opens { (g : State) (f : Firing) (note : Note)
-        → is_full g.transactions ≡ false → g.line.opened ≡ None → (fire g f).line.opened ≡ Some note → IsSent note g (fire g f) }
+        → is_full g.transactions ≡ false → (fire g f).line.opened ≡ g.line.opened ++ note ∷ [] → IsSent note g (fire g f) }
     ensures oldest { (g : State) (note : Note) (notes : List Note)
         → is_full g.transactions ≡ false → g.line.spool.notes ≡ note ∷ notes → IsSent note g (fire g (firing 3 0 12)) }
     ensures head { (g : State) (note : Note) (notes : List Note)
         → is_full g.transactions ≡ false → g.line.waiting ≡ note ∷ notes → IsSent note g (fire g (firing 3 0 13)) }
 {}
 
-/// Where a history leads, the open note of the line is the one note whose transaction is open: where no note is open, no
-/// transaction of one is.
+/// Where a history leads, the open notes of the line are those whose transactions are open: both have the same numbers, in the order in
+/// which the notes were sent. At most so many are open as the configuration says.
 pub fn an_open_note_has_its_transaction()
-    ensures { (c : Config) (entries : List Entry) (h : State)
-        → Run (opening c) entries h → note_numbers h.transactions.opened ≡ open_number h.line }
+    ensures numbers { (c : Config) (entries : List Entry) (h : State)
+        → c.window ≤ most_open → Run (opening c) entries h → note_numbers h.transactions.opened ≡ open_numbers h.line }
+    ensures within { (c : Config) (entries : List Entry) (h : State) → Run (opening c) entries h → length h.line.opened ≤ c.window }
 {}
 
 /// What holds of the load ports and the carriers at every moment holds where a history leads, and in each state that the tool
@@ -107,18 +117,34 @@ pub fn an_inactive_spool_is_empty()
         → Run (opening c) entries h → is_inactive h.line.spool.load ≡ true → has_note h.line.spool ≡ false }
 {}
 
-/// Sendings of one kind never go back to a lower number: of the notes that are open behind the entries of a history, none is
-/// below an earlier one of its kind. It has the same number where a note was sent again.
+/// Each note that is sent in a history, for the first time or again, is the least of its kind among those that are spooled or wait
+/// where it is sent. So first sendings of one kind never go back to a lower number. What an input does before the tool settles sends
+/// none.
+pub fn a_sending_is_of_the_least_in_a_history()
+    ensures least { (c : Config) (entries : List Entry) (h : State) → Run (opening c) entries h → EachLeast (opening c) entries }
+    ensures firsts { (c : Config) (entries : List Entry) (h : State) → Run (opening c) entries h → FirstsInOrder (sendings (opening c) entries) }
+    ensures inputs { (g : State) (entry : Entry) (o : Outcome) → input_of g entry ≡ Some o → Are IsListed (rows_of_input g entry) }
+{}
+
+/// Where one note may be open at once, sendings of one kind never go back to a lower number: of the notes that the entries of a history
+/// send, none is below an earlier one of its kind. It has the same number where a note was sent again.
 pub fn sendings_never_go_back()
-    ensures { (c : Config) (entries : List Entry) (h : State) → Run (opening c) entries h → NeverBack (opening c) entries }
+    ensures { (c : Config) (entries : List Entry) (h : State) → c.window ≡ 1 → Run (opening c) entries h → NeverBack (opening c) entries }
+{}
+
+/// A number is sent again only after its transaction failed, by T3, with the session, or by the operator's `disable`: between two
+/// sendings of one number in a history, row 14 of table 3 fires at it.
+pub fn a_number_is_sent_again_only_after_its_transaction_failed()
+    ensures { (c : Config) (entries : List Entry) (h : State) → Run (opening c) entries h → FailsBetween (turns (opening c) entries) }
 {}
 
 /// A report is sent again, with its number, only where no answer to it came: where a history leads, a note that has ended,
-/// answered or dropped, is open behind no later entry. So what goes out a second time was sent in a transaction that ended
-/// without an answer, by T3, with the session, or by the operator's `disable`; while that is open, no note is sent (law
-/// `an_open_note_has_its_transaction`).
+/// answered or dropped, is open behind no later entry, and none of them sends it.
 pub fn a_note_that_ended_is_not_sent_again()
-    ensures { (c : Config) (front behind : List Entry) (g h : State) (number : ℕ) (fate : Fate)
+    ensures open { (c : Config) (front behind : List Entry) (g h : State) (number : ℕ) (fate : Fate)
         → Run (opening c) front g → Run g behind h → fate_of number g.line.told ≡ Some fate → is_ended fate ≡ true
         → AllByRecursion (IsOther number) (open_behind g behind) }
+    ensures sent { (c : Config) (front behind : List Entry) (g h : State) (number : ℕ) (fate : Fate)
+        → Run (opening c) front g → Run g behind h → fate_of number g.line.told ≡ Some fate → is_ended fate ≡ true
+        → AllByRecursion (IsOther number) (sendings g behind) }
 {}

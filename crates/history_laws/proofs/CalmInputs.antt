@@ -49,19 +49,19 @@ use Rattle.gem_model.specs.Verdict.{Verdict, Answers, Taken, verdict, header_of,
 use Rattle.gem_model.specs.Act.{replied, note_answered}
 use Rattle.gem_model.specs.Due.{Due, EndOfSession, Linktest, Timeout, dues, is_due, due_done}
 use Rattle.gem_model.specs.Step.{Outcome, answered, acts, linked, switched}
-use Rattle.gem_model.specs.Occurrences.{Occurrence, RowFires, rows_among, on_listed, on_rows, on_setting, on_message, on_taken, on_closing, on_data, on_session_end, on_host, on_switched, on_operator, on_due, on_dues, occurrences}
+use Rattle.gem_model.specs.Run.{input_of}
+use Rattle.gem_model.specs.Occurrences.{Occurrence, RowFires, rows_among, on_listed, on_rows, on_setting, on_message, on_taken, on_closing, on_data, on_session_end, on_host, on_switched, on_operator, on_due, on_dues, occurrences, rows_of_input}
 use Rattle.gem_model.proofs.Occurring.{rows_both, rows_behind, set_written, message_written, switched_written, event_occurs}
 use Rattle.gem_model.proofs.Tests.{either_way}
 use Rattle.gem_model.proofs.OnFloor.{effect_as, starts_as}
 use Rattle.gem_model.proofs.EachFloor.{SameFloor, floor_comm, floor_control, floor_line}
 use Rattle.gem_model.proofs.FloorRows.{advanced_keeps, creations_is, effect_is, starts_is}
 use Rattle.gem_model.proofs.Listed.{IsFree, are_both, listed_answer, listed_timeout, listed_ended, listed_disable, free_enable, free_online, free_offline, free_local, free_remote, free_service, free_access, free_up, free_command, free_control}
-use Rattle.history_laws.specs.Completes.{input_of}
-use Rattle.history_laws.specs.Calm.{rows_of_input, disturbs, is_calm}
+use Rattle.history_laws.specs.Calm.{disturbs, is_calm}
 use Rattle.gem_model.specs.Inputs.{WritesFloor, writes_nothing, writes_arrival, writes_carrier, creates_process, creates_control, makes_head, fetches, AreFired, Fires}
 use Rattle.history_laws.proofs.CommonRows.{is_4, is_7, advanced_floor}
 use Rattle.history_laws.proofs.FloorFacts.{fact_creation}
-use Rattle.history_laws.proofs.Completing.{acted_so}
+use Rattle.gem_model.proofs.Entries.{acted_so}
 use Rattle.history_laws.proofs.CalmRows.{Calm, calm_base, calm_shop, calm_fetched, calm_removed, calm_row, calm_created, calm_added, calm_headed}
 use Rattle.history_laws.proofs.InputRows.{IsInput, AreInputs, free_inputs, end_inputs, placing_inputs, done_inputs, failed_inputs, down_inputs, lost_inputs, message_inputs}
 
@@ -80,11 +80,11 @@ module _ (number : ℕ) (counted : ℕ → Bool) (f : ToolFloor) where
   holds_same g h same c = subst (Calm number counted f) (sym same) c
 
   by_tables : (first second third : Bool) (x : Firing) (row : ℕ) (g : State) → IsInput x → disturbs number counted f x ≡ false →
-      (if first then comm_starts row g.comm else (if second then control_starts row g.control else (if third then line_starts (around g) row g.line else floor_starts x g.floor))) ≡ true →
-      Holds g → Holds (if first then fire_comm row g else (if second then fire_control row g else (if third then fire_line row g else fire_floor x g)))
+      (if first then comm_starts row g.comm else (if second then control_starts row g.control else (if third then line_starts (around g) row x.object g.line else floor_starts x g.floor))) ≡ true →
+      Holds g → Holds (if first then fire_comm row g else (if second then fire_control row g else (if third then fire_line row x.object g else fire_floor x g)))
   by_tables true second third x row g input quiet is c = holds_same g (fire_comm row g) (floor_comm g row) c
   by_tables false true third x row g input quiet is c = holds_same g (fire_control row g) (floor_control g row) c
-  by_tables false false true x row g input quiet is c = holds_same g (fire_line row g) (floor_line g row) c
+  by_tables false false true x row g input quiet is c = holds_same g (fire_line row x.object g) (floor_line g row x.object) c
   by_tables false false false x row g input quiet is c = calm_row number counted f x g.floor is input quiet c
 
   one_row : (g : State) (x : Firing) → IsInput x → disturbs number counted f x ≡ false → row_starts g x ≡ true → Holds g → Holds (takes_effect g x)

@@ -1,5 +1,5 @@
 -- A control job that executes undisturbed completes exactly at its last Done, in each history.
-use Rattle.std.proofs.Common.{◌≡◌, ◌⊎◌, ◌≤◌, ℕ, zero, suc, ◌+◌, ◌==◌, nat_le, Bool, true, false, if◌then◌else◌, List, [], ◌∷◌, Option, Some, None, option_map, unwrap_or, is_some, not, inl, inr, refl, sym, ◌∙◌, ap, subst, arith}
+use Rattle.std.proofs.Common.{◌≡◌, ◌⊎◌, ◌≤◌, ℕ, zero, suc, ◌+◌, ◌==◌, nat_le, Bool, true, false, if◌then◌else◌, List, [], ◌∷◌, Option, Some, None, is_some, not, inl, inr, refl, sym, ◌∙◌, ap, subst, arith}
 use Rattle.std.proofs.lemmas.Bool.{true≢false}
 use Rattle.std.proofs.lemmas.Bool.Decides.{Decides-eqb, nat_tests}
 use Rattle.gem_ids.specs.declared.numbers.CmdNo.{CmdNo}
@@ -48,10 +48,9 @@ use Rattle.gem_model.specs.Fire.{fire, fire_all, fire_listed}
 use Rattle.gem_model.specs.Machines.{least, creations}
 use Rattle.gem_model.specs.Settle.{Path, settled, Along}
 use Rattle.gem_model.specs.Signals.{module_of, lacks_module, module_done, signalled}
-use Rattle.gem_model.specs.Step.{Outcome, answered, acts, settles}
-use Rattle.gem_model.specs.Run.{Run, entry_after, after_all}
-use Rattle.history_laws.specs.Completes.{control_of, has_completed, input_of, StartsAt, by_itself, by_word, IsCalmRun, done_of, dones, CompletesAtLast, EachCompletes}
-use Rattle.gem_model.proofs.Tests.{none_some}
+use Rattle.gem_model.specs.Step.{Outcome, answered, acts}
+use Rattle.gem_model.specs.Run.{Run, input_of, entry_after, after_all}
+use Rattle.history_laws.specs.Completes.{control_of, has_completed, StartsAt, by_itself, by_word, IsCalmRun, done_of, dones, CompletesAtLast, EachCompletes}
 use Rattle.gem_model.proofs.FloorRows.{created_are, effect_is, ready_is}
 use Rattle.gem_model.proofs.EachFloor.{floor_each}
 use Rattle.gem_model.proofs.Each.{each_kept}
@@ -64,33 +63,8 @@ use Rattle.history_laws.proofs.Ordering.{Rested, order_fact, order_first}
 use Rattle.history_laws.proofs.Carrying.{Undone, Carried, carried_changes}
 use Rattle.gem_model.proofs.Resting.{AtRest, opening-rests, settled-rests}
 use Rattle.gem_model.proofs.Settling.{settled_keeps, settled_along, settles_so}
+use Rattle.gem_model.proofs.Entries.{led_to, behind_entry, acted_so, after_acting}
 use Rattle.gem_model.proofs.Walk.{Any, Kept, kept_acts, kept_input}
-
--- ---- entries
-
--- what an entry leads to, by whether the run has ended and what the event does before the tool settles
-abbrev led_to : Bool → Option Outcome → ℕ → State → State
-led_to b x at g = unwrap_or (option_map (λ (o : Outcome). o.after) (if b then Some (answered answer.Ended (raised g at)) else option_map settles x)) g
-
--- what holds of the floor, of each state that an event makes of one, and of the settled one, holds behind an entry
-behind_entry : (P : State → Type 0) (g : State) (entry : Entry) → P g → P (raised g entry.at.0) → ((o : Outcome) → input_of g entry ≡ Some o → P (settled o.after)) → P (entry_after g entry)
-behind_entry P g entry here there acted = of g.quitting (acts g.moment (raised g entry.at.0) entry.event) refl refl where
-  of : (b : Bool) (x : Option Outcome) → g.quitting ≡ b → acts g.moment (raised g entry.at.0) entry.event ≡ x → P (led_to b x entry.at.0 g)
-  of true x q a = there
-  of false None q a = here
-  of false (Some o) q a = acted o (ap (λ (b : Bool). if b then None else acts g.moment (raised g entry.at.0) entry.event) q ∙ a)
-
--- the event acted, before the run has ended
-pub acted_so : (g : State) (entry : Entry) (o : Outcome) → input_of g entry ≡ Some o → (g.quitting ≡ false) × (acts g.moment (raised g entry.at.0) entry.event ≡ Some o)
-acted_so g entry o here = of g.quitting refl here where
-  of : (b : Bool) → g.quitting ≡ b → (if b then None else acts g.moment (raised g entry.at.0) entry.event) ≡ Some o → (g.quitting ≡ false) × (acts g.moment (raised g entry.at.0) entry.event ≡ Some o)
-  of true q e = none_some o e
-  of false q e = (q, e)
-
-after_acting : (g : State) (entry : Entry) (o : Outcome) → input_of g entry ≡ Some o → entry_after g entry ≡ settled o.after
-after_acting g entry o here =
-    let is = acted_so g entry o here in
-    ap (λ (b : Bool). led_to b (acts g.moment (raised g entry.at.0) entry.event) entry.at.0 g) is.0 ∙ ap (λ (x : Option Outcome). led_to false x entry.at.0 g) is.1
 
 -- ---- the floor is prepared
 

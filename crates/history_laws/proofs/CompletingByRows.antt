@@ -8,9 +8,9 @@ use Rattle.tool_events.specs.declared.entry.Entry.{Entry}
 use Rattle.lot_laws.specs.Lot.{counted_of, planned_of, total, IsCalmBetween}
 use Rattle.gem_model.specs.State.{State, opening}
 use Rattle.gem_model.specs.Step.{Outcome}
-use Rattle.gem_model.specs.Run.{Run, entry_after}
+use Rattle.gem_model.specs.Run.{Run, input_of, entry_after}
 use Rattle.gem_model.proofs.Resting.{AtRest, opening-rests}
-use Rattle.history_laws.specs.Completes.{input_of, IsCalmRun, done_of, EachCompletes}
+use Rattle.history_laws.specs.Completes.{IsCalmRun, done_of, EachCompletes}
 use Rattle.history_laws.proofs.Past.{IsPast}
 use Rattle.history_laws.proofs.Completing.{Prepared, prepared_entry, prepared_first, Owes, Stands, stands_entry, past_completed, started_stands, rest_entry, run-completes}
 use Rattle.history_laws.specs.Calm.{IsCalmByRows, EachCompletesByRows}

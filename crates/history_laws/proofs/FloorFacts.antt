@@ -190,7 +190,7 @@ module _ (F : ToolFloor → Type 0) where
   fact_line g None f here st = none_some f here
   fact_line g (Some row) f here st =
       let same : firing 3 0 row ≡ f = cc in
-      subst (λ (x : Firing). Holds (fire g x)) same (fact_same g (fire_line row g) (floor_line g row) st)
+      subst (λ (x : Firing). Holds (fire g x)) same (fact_same g (fire_line row 0 g) (floor_line g row 0) st)
 
   -- where the rows of the floor that are ready by themselves keep it, each does
   pub fact_automatic : ((x : Firing) (f : ToolFloor) → floor_least f ≡ Some x → F f → F (floor_fired x f)) → (g : State) (f : Firing) → least g ≡ Some f → Holds g → Holds (fire g f)
@@ -215,11 +215,11 @@ module _ (Rest : Event → State → Type 0) (F : ToolFloor → Type 0) (fact : 
   -- ---- rows that are fired alone
 
   by_tables : (first second third : Bool) (f : Firing) (row : ℕ) (g : State) → IsOfInput f →
-      (if first then comm_starts row g.comm else (if second then control_starts row g.control else (if third then line_starts (around g) row g.line else floor_starts f g.floor))) ≡ true →
-      At g → At (if first then fire_comm row g else (if second then fire_control row g else (if third then fire_line row g else fire_floor f g)))
+      (if first then comm_starts row g.comm else (if second then control_starts row g.control else (if third then line_starts (around g) row f.object g.line else floor_starts f g.floor))) ≡ true →
+      At g → At (if first then fire_comm row g else (if second then fire_control row g else (if third then fire_line row f.object g else fire_floor f g)))
   by_tables true second third f row g input is st = fact_same F g (fire_comm row g) (floor_comm g row) st
   by_tables false true third f row g input is st = fact_same F g (fire_control row g) (floor_control g row) st
-  by_tables false false true f row g input is st = fact_same F g (fire_line row g) (floor_line g row) st
+  by_tables false false true f row g input is st = fact_same F g (fire_line row f.object g) (floor_line g row f.object) st
   by_tables false false false f row g input is st = fact.row f g.floor is input st
 
   input_row : (g : State) (f : Firing) → IsOfInput f → row_starts g f ≡ true → At g → At (takes_effect g f)
@@ -360,7 +360,7 @@ module _ (Rest : Event → State → Type 0) (F : ToolFloor → Type 0) (fact : 
     transactions = λ g t st. st;
     waiting = λ g w st. st;
     event = λ g e o online st. st;
-    answer = λ g st. st;
+    answer = λ g number st. st;
     row = λ g f end starts st. input_row g f (end_input f end) starts st;
     created = fact_creation F;
   }
@@ -369,11 +369,12 @@ module _ (Rest : Event → State → Type 0) (F : ToolFloor → Type 0) (fact : 
   fact_inner = record {
     clock = λ g c st. st;
     switch = λ g b st. st;
-    drawn = λ g t same st. st;
+    drawn = λ g st. st;
     constants = λ g c st. st;
     reports = λ g r st. st;
     alarms = λ g a st. st;
-    waiting = λ g w st. st;
+    frame = λ g h text other st. st;
+    handed = λ g frame frames is st. st;
     event = λ g e o online st. st;
     alarm = λ g alid st. st;
     kinds = λ g k st. st;
@@ -384,7 +385,7 @@ module _ (Rest : Event → State → Type 0) (F : ToolFloor → Type 0) (fact : 
     row = λ g f free starts st. input_row g f (free_input f free) starts st;
     units = units;
     created = fact_creation F;
-    answered = λ g h item test one found st. end_closed At ends g h item one st;
+    answered = λ g h item one found st. end_closed At ends g h item one st;
     failed = λ g test one found st. end_timed_out At ends g one st;
     disabled = end_disabled At ends;
   }

@@ -10,7 +10,9 @@ use Rattle.gem_model.specs.Run.{Run, after_all}
 use Rattle.history_laws.specs.Recorded.{Recorded}
 use Rattle.gem_model.proofs.Runs.{after_all-run}
 use Rattle.gem_model.proofs.Reporting.{run-reported, run-texts, run-sent, run-frames}
-use Rattle.gem_model.proofs.Validity.{run-line, run-sendings, run-empty, run-room}
+use Rattle.gem_model.proofs.Validity.{run-line, run-empty, run-room, run-within, run-ten}
+use Rattle.gem_model.proofs.Sendings.{run-least, run-sendings, run-again}
+use Rattle.gem_model.proofs.FirstSendings.{run-firsts}
 use Rattle.gem_model.proofs.NoteNumbers.{run-own}
 use Rattle.gem_model.proofs.Floored.{run-floor, run-carriers}
 use Rattle.history_laws.proofs.Placed.{run_at, run-placed}
@@ -35,8 +37,13 @@ recorded-of c history g bounds run =
       sent = run-sent c history g run;
       frames = run-frames c history g run;
       fates = run-line c history g run;
-      sendings = run-sendings c history g run;
-      open_note = run-own c history g run;
+      least = run-least c history g run;
+      firsts = run-firsts c history g run;
+      again = run-again c history g run;
+      sendings = λ one. run-sendings c history g one run;
+      open_notes = run-own c history g bounds.window run;
+      within = run-within c history g run;
+      ten_open = run-ten c history g bounds.window run;
       spool = run-empty c history g run;
       floor = run-floor c history g ports run;
       carriers = run-carriers c history g ports run;
@@ -47,7 +54,7 @@ recorded-of c history g bounds run =
       given = run-given c history g ports run;
       moves = run-moves c history g ports run;
       ends = run-ends-once c history g ports run;
-      room = run-room c history g run;
+      room = run-room c history g bounds.window run;
       works = λ up work. run-works c history g ports few bounds.recipes run up work;
       completes = run-completes c history g ports few bounds.recipes run;
       fires = each_fires (opening c) history;

@@ -1,4 +1,4 @@
--- The rows that an input fires, and a run in which none of them disturbs a control job (after SEMI E94, SEMI E40 and SEMI E90; this
+-- A run in which no row that an input fires disturbs a control job (after SEMI E94, SEMI E40 and SEMI E90; this
 -- tool's profile, tables 13 to 16, and direct rows).
 use Rattle.std.specs.Prelude.{◌≡◌, ◌⊎◌, ℕ, ◌==◌, nat_le, Bool, true, false, not, ◌&&◌, if◌then◌else◌, List, [], ◌∷◌, ◌++◌, Option, Some, None}
 use Rattle.std.specs.List.{list_any}
@@ -12,16 +12,10 @@ use Rattle.floor_model.specs.Floor.{ToolFloor}
 use Rattle.queue_laws.specs.Started.{is_left_in}
 use Rattle.queue_laws.specs.Steers.{AreAutomatic, disturbs_control}
 use Rattle.lot_laws.specs.Lot.{counted_of, total, IsMaterialHere}
-use Rattle.gem_model.specs.State.{State, raised}
-use Rattle.gem_model.specs.Occurrences.{rows_among, occurrences}
+use Rattle.gem_model.specs.State.{State}
+use Rattle.gem_model.specs.Occurrences.{rows_of_input}
 use Rattle.gem_model.specs.Run.{entry_after, after_all}
 use Rattle.history_laws.specs.Completes.{control_of, has_completed, StartsAt, dones}
-
--- ---- the rows that fire
-
--- the input of an entry fires these, before the tool settles, in order; none once the run has ended
-abbrev pub rows_of_input : State → Entry → List Firing
-rows_of_input g entry = if g.quitting then [] else rows_among (occurrences g.moment (raised g entry.at.0) entry.event)
 
 -- ---- what disturbs a control job
 

@@ -12,12 +12,12 @@ use Rattle.control_job.specs.declared.job.ControlJob.{ControlJob}
 use Rattle.floor_model.specs.Machines.{floor_starts, floor_fired}
 use Rattle.queue_laws.specs.Steers.{AreAutomatic}
 use Rattle.lot_laws.specs.Lot.{counted_of, total, IsMaterialHere, IsCalmBetween}
-use Rattle.gem_model.specs.State.{State, raised}
+use Rattle.gem_model.specs.State.{State}
 use Rattle.gem_model.specs.Fire.{fire_all}
 use Rattle.gem_model.specs.Settle.{settling}
 use Rattle.gem_model.specs.Signals.{module_of}
-use Rattle.gem_model.specs.Step.{Outcome, acts}
-use Rattle.gem_model.specs.Run.{entry_after, after_all}
+use Rattle.gem_model.specs.Step.{Outcome}
+use Rattle.gem_model.specs.Run.{input_of, entry_after, after_all}
 
 -- the control job of a number
 abbrev pub control_of : ℕ → State → Option ControlJob
@@ -27,10 +27,6 @@ control_of number g = control_numbered number g.floor.jobs.control.jobs
 abbrev pub has_completed : Option ControlJob → Bool
 has_completed None = true
 has_completed (Some c) = not (is_open c)
-
--- what the input of an entry does, before the tool settles; nothing once the run has ended
-abbrev pub input_of : State → Entry → Option Outcome
-input_of g entry = if g.quitting then None else acts g.moment (raised g entry.at.0) entry.event
 
 -- The control job of a number starts in an entry, in this state: by row 4 of table 15 as the tool settles, behind the rows before it; or
 -- by row 5, which starts there and is all that the input does to the floor.

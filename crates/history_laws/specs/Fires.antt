@@ -4,9 +4,8 @@ use Rattle.tool_events.specs.declared.entry.Entry.{Entry}
 use Rattle.gem_model.specs.State.{State, raised}
 use Rattle.gem_model.specs.Inputs.{Fires}
 use Rattle.gem_model.specs.Step.{Outcome}
-use Rattle.gem_model.specs.Run.{entry_after}
-use Rattle.history_laws.specs.Completes.{input_of}
-use Rattle.history_laws.specs.Calm.{rows_of_input}
+use Rattle.gem_model.specs.Run.{input_of, entry_after}
+use Rattle.gem_model.specs.Occurrences.{rows_of_input}
 
 -- the rows that are listed of the input of each entry are those that it fires
 abbrev pub EachFires : State → List Entry → Type 0

@@ -20,7 +20,8 @@ use Rattle.history_laws.specs.Calm.{EachCompletesByRows}
 use Rattle.history_laws.specs.Fires.{EachFires}
 use Rattle.history_laws.specs.Found.{AreOccupied, AreMet}
 use Rattle.gem_model.specs.Reported.{told_as, reported_in, IsOf}
-use Rattle.gem_model.specs.OpenNotes.{Carries, NeverBack, open_behind, frames_behind, note_numbers, open_number}
+use Rattle.gem_model.specs.OpenNotes.{Carries, open_behind, frames_behind, note_numbers, open_numbers}
+use Rattle.gem_model.specs.Sendings.{sendings, turns, EachLeast, FirstsInOrder, FailsBetween, NeverBack}
 
 -- Facts of a history that began under this configuration and led to this state. Each public call that hands out a history has
 -- them; a further one is a field more.
@@ -35,12 +36,23 @@ pub record Recorded (c : Config) (history : List Entry) (g : State) : Type 0 whe
   pub sent : AllByRecursion (IsOf (reported_in (opening c) history)) (open_behind (opening c) history)
   -- each frame of S6F11 and S5F1 that goes out is that of a note, and has the text of what was reported under its number
   pub frames : AllByRecursion (Carries (IsOf (reported_in (opening c) history))) (frames_behind (opening c) history)
-  -- each note has one fate, and of each kind those that have not ended stand in the order of their numbers
+  -- each note has one fate, and the line is in order: the numbers of spooled notes rise, those of waiting ones too, and each that waits is above
+  -- each open one and each spooled one
   pub fates : LineValid g.line
-  -- sendings of one kind never go back to a lower number
-  pub sendings : NeverBack (opening c) history
-  -- the open note is the one whose transaction is open
-  pub open_note : note_numbers g.transactions.opened ≡ open_number g.line
+  -- each note that is sent, for the first time or again, is the least of its kind among those that are spooled or wait
+  pub least : EachLeast (opening c) history
+  -- a note that is sent for the first time isn't below one of its kind that was sent before
+  pub firsts : FirstsInOrder (sendings (opening c) history)
+  -- a number is sent again only after its transaction failed
+  pub again : FailsBetween (turns (opening c) history)
+  -- where one note may be open at once, sendings of one kind never go back to a lower number
+  pub sendings : c.window ≡ 1 → NeverBack (opening c) history
+  -- the open notes are those whose transactions are open, by their numbers in the order in which they were sent
+  pub open_notes : note_numbers g.transactions.opened ≡ open_numbers g.line
+  -- no more notes are open than may be
+  pub within : length g.line.opened ≤ c.window
+  -- at most ten transactions are open
+  pub ten_open : length g.transactions.opened ≤ 10
   -- an INACTIVE spool is empty
   pub spool : is_inactive g.line.spool.load ≡ true → has_note g.line.spool ≡ false
   -- each carrier has a name of its own, and one that is present or bound belongs to the port where it is

@@ -1,4 +1,5 @@
--- Where every transaction fails: the open notes from the greatest number down, and none is open behind them.
+-- What is open behind a note that fails or is answered; and where every transaction fails: the open notes from the greatest number down, and
+-- none is open behind them.
 use Rattle.std.proofs.Common.{◌≡◌, ℕ, ◌+◌, ◌-◌, ◌≤◌, ◌==◌, Bool, true, false, List, [], ◌∷◌, length, drop, Option, Some, None, find, cond, refl, sym, ap, subst, arith, ◌∙◌, if◌then◌else◌}
 use Rattle.std.specs.Prelude.{nat_lt, slice_get}
 use Rattle.std.specs.List.{count_by}
@@ -8,9 +9,9 @@ use Rattle.spool.specs.declared.note.Note.{Note}
 use Rattle.spool.specs.Spool as spool
 use Rattle.spool.proofs.PutBack.{dropped_at}
 use Rattle.note_line.specs.declared.around.Around.{Around}
-use Rattle.note_line.specs.declared.fate.Fate.TheVariants.{Dropped, Spooled}
+use Rattle.note_line.specs.declared.fate.Fate.TheVariants.{Answered, Dropped, Spooled}
 use Rattle.note_line.specs.declared.fate.DropCause.TheVariants.{NoSpool}
-use Rattle.note_line.specs.Line.{Line, is_number, without, in_kind, fated, with_one, lost_is_dropped, returned, failed, fail_open}
+use Rattle.note_line.specs.Line.{Line, is_number, without, in_kind, fated, with_one, lost_is_dropped, returned, failed, fail_open, answered}
 use Rattle.note_line.specs.Failing.{numbers, put_down, from_greatest, failing, fail_all}
 use Rattle.note_line.specs.Fates.{one_if}
 use Rattle.note_line.proofs.Places.{count-cons}
@@ -32,7 +33,7 @@ as_many (one ∷ others) = let more = put_more one.number (from_greatest (number
 pub falling_at : (notes : List Note) (i : ℕ) (one : Note) → slice_get notes i ≡ Some one → put_down one.number (from_greatest (numbers (drop (i + 1) notes))) ≡ from_greatest (numbers (drop i notes))
 falling_at notes i one here = sym (ap (λ (l : List Note). from_greatest (numbers l)) (dropped_at notes i one here))
 
--- ---- what is open behind a note that fails
+-- ---- what is open behind a note that fails or is answered
 
 lost_same : (o : Option Note) (l : Line) → (lost_is_dropped o l).opened ≡ l.opened
 lost_same None l = refl
@@ -45,7 +46,7 @@ failed_same a note l = of (in_kind l.kinds note) where
   of false = refl
 
 -- where none has the number, none leaves
-without_none : (number : ℕ) (notes : List Note) → find (is_number number) notes ≡ None → without number notes ≡ notes
+pub without_none : (number : ℕ) (notes : List Note) → find (is_number number) notes ≡ None → without number notes ≡ notes
 without_none number [] e = refl
 without_none number (one ∷ others) e = of (is_number number one) refl e (without_none number others) where
   of : (b : Bool) → is_number number one ≡ b → (cond b (Some one) (find (is_number number) others)) ≡ None → (find (is_number number) others ≡ None → without number others ≡ others) → (if b then others else one ∷ without number others) ≡ one ∷ others
@@ -57,6 +58,12 @@ fail_opened a number l = of (find (is_number number) l.opened) refl where
   of : (one : Option Note) → find (is_number number) l.opened ≡ one → (with_one (failed a) number one l).opened ≡ without number l.opened
   of None e = sym (without_none number l.opened e)
   of (Some note) e = failed_same a note (record l { opened = without number l.opened })
+
+pub answered_opened : (number : ℕ) (l : Line) → (answered number l).opened ≡ without number l.opened
+answered_opened number l = of (find (is_number number) l.opened) refl where
+  of : (one : Option Note) → find (is_number number) l.opened ≡ one → (with_one (fated Answered) number one l).opened ≡ without number l.opened
+  of None e = sym (without_none number l.opened e)
+  of (Some note) e = refl
 
 -- ---- all of them
 

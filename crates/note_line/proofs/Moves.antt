@@ -34,6 +34,7 @@ pub record Moves (g h : Line) : Type 0 where
   pub waiting : Recounts is_waiting note from to g.waiting h.waiting
   pub spooled : Recounts is_spooled note from to g.spool.notes h.spool.notes
   pub opened : Recounts is_open note from to g.opened h.opened
+  pub window : h.window ≡ g.window
   pub ordered : IsOrdered h
 
 -- ---- what is so of each

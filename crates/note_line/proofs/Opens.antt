@@ -1,16 +1,19 @@
 -- Which rows open a note: 12 the oldest spooled one, and 13 the head, each where the tool communicates and fewer are open than may be.
-use Rattle.std.proofs.Common.{◌≡◌, ℕ, ◌==◌, Bool, true, false, if◌then◌else◌, List, [], ◌∷◌, ◌++◌, take, Option, Some, None, refl, sym, ap, subst, append-nil, ◌∙◌}
+use Rattle.std.proofs.Common.{◌≡◌, ℕ, ◌==◌, Bool, true, false, if◌then◌else◌, List, [], ◌∷◌, ◌++◌, length, take, Option, Some, None, refl, sym, ap, subst, arith, append-nil, ◌∙◌}
 use Rattle.std.specs.List.{AllByRecursion}
-use Rattle.std.proofs.lemmas.Bool.{true≢false}
+use Rattle.std.proofs.lemmas.Bool.{true≢false, eqb-true}
+use Rattle.std.proofs.lemmas.List.{append_cancel_left, length_push}
 use Rattle.spool.specs.declared.note.Note.{Note}
 use Rattle.spool.specs.Spool as spool
 use Rattle.note_line.specs.declared.around.Around.{Around}
 use Rattle.note_line.specs.declared.fate.DropCause.TheVariants.{NoSpool}
 use Rattle.note_line.specs.declared.fate.Fate.TheVariants.{Dropped, Spooled}
-use Rattle.note_line.specs.Line.{Line, fated, with_head, lost_is_dropped, spooled, sent, open_oldest_of, purge_oldest_of}
-use Rattle.note_line.specs.Table3.{Row, line_table, may_open, sends, least, effect_of, row_effect}
-use Rattle.note_line.proofs.Rows.{and_first, and_second}
+use Rattle.note_line.specs.Line.{Line, without, fated, with_head, lost_is_dropped, spooled, sent, open_oldest_of, purge_oldest_of}
+use Rattle.note_line.specs.Table3.{Row, line_table, row_of, may_open, sends, least, effect_of, row_effect}
+use Rattle.note_line.proofs.Rows.{and_first, and_second, find_gives}
 use Rattle.note_line.proofs.Keeps.{least_is}
+use Rattle.note_line.proofs.Places.{one_less}
+use Rattle.note_line.proofs.Failing.{fail_opened}
 
 -- what a row that fires by itself does to the open notes
 pub data Opens (a : Around) (l h : Line) (number : ℕ) : Type 0 where
@@ -114,3 +117,69 @@ head-may_open a l e = of (least-opens a l 13 e) where
   of (opens_none is other another) = absurd (true≢false another)
   of (opens_oldest is talks may at) = may
   of (opens_head is talks may at) = may
+
+-- ---- whichever row, wherever it starts
+
+-- a list isn't the same with one more behind it, and no longer without one
+not_more : {P : Type 0} (opened : List Note) (note : Note) → opened ≡ opened ++ note ∷ [] → P
+not_more opened note e = let longer = ap length e in absurd (omega (arith, longer, length_push opened note))
+
+not_longer : {P : Type 0} (number : ℕ) (opened : List Note) (note : Note) → without number opened ≡ opened ++ note ∷ [] → P
+not_longer number opened note e = let longer = ap length e in let most = (one_less number opened).0 in absurd (omega (arith, longer, most, length_push opened note))
+
+-- where one note more is open behind it, that is the one that it sends
+abbrev RowAdds : Around → ℕ → Line → Row → Type 0
+RowAdds a number l r = (note : Note) → (r.effect a number l).opened ≡ l.opened ++ note ∷ [] → sends r.number l ≡ note ∷ []
+
+rows_add : (a : Around) (number : ℕ) (l : Line) → AllByRecursion (RowAdds a number l) line_table
+rows_add a number l = (
+  (λ note e. not_more l.opened note e),
+  (
+    (λ note e. not_more l.opened note e),
+    (
+      (λ note e. not_more l.opened note e),
+      (
+        (λ note e. not_more l.opened note e),
+        (
+          (λ note e. not_more l.opened note e),
+          (
+            (λ note e. not_more l.opened note (sym (purged_same l.spool.notes l) ∙ e)),
+            (
+              (λ note e. not_more l.opened note e),
+              (
+                (λ note e. not_more l.opened note e),
+                (
+                  (λ note e. not_more l.opened note e),
+                  (
+                    (λ note e. not_more l.opened note (sym (spooled_same a.overwrites l.waiting l) ∙ e)),
+                    (
+                      (λ note e. not_more l.opened note (sym (dropped_same l.waiting l) ∙ e)),
+                      (
+                        (λ note e. append_cancel_left l.opened (take 1 l.spool.notes) (note ∷ []) (sym (oldest_open l.spool.notes l) ∙ e)),
+                        (
+                          (λ note e. append_cancel_left l.opened (take 1 l.waiting) (note ∷ []) (sym (head_open l.waiting l) ∙ e)),
+                          (
+                            (λ note e. not_longer number l.opened note (sym (fail_opened a number l) ∙ e)),
+                            tt,
+                          ),
+                        ),
+                      ),
+                    ),
+                  ),
+                ),
+              ),
+            ),
+          ),
+        ),
+      ),
+    ),
+  ),
+)
+
+pub row-sends : (a : Around) (number note : ℕ) (l : Line) (one : Note) → (row_effect a number note l).opened ≡ l.opened ++ one ∷ [] → sends number l ≡ one ∷ []
+row-sends a number note l one e = of (row_of number) refl e where
+  of : (found : Option Row) → row_of number ≡ found → (effect_of found a note l).opened ≡ l.opened ++ one ∷ [] → sends number l ≡ one ∷ []
+  of None q f = not_more l.opened one f
+  of (Some r) q f =
+      let its = find_gives (RowAdds a note l) (λ r. r.number == number) line_table r (rows_add a note l) q in
+      subst (λ n. sends n l ≡ one ∷ []) (eqb-true r.number number its.1) (its.0 one f)

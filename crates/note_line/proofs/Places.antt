@@ -1,5 +1,5 @@
 -- A note and its place by number among others, and the one that a number finds.
-use Rattle.std.proofs.Common.{◌≡◌, ℕ, ◌+◌, ◌<◌, ◌==◌, Bool, true, false, not, ◌&&◌, List, [], ◌∷◌, ◌++◌, Some, find, refl, sym, ap, cond, subst, ◌∙◌, arith}
+use Rattle.std.proofs.Common.{◌≡◌, ℕ, suc, ◌+◌, ◌<◌, ◌≤◌, ◌==◌, Bool, true, false, not, ◌&&◌, List, [], ◌∷◌, ◌++◌, length, Some, find, refl, sym, ap, cond, subst, ◌∙◌, arith}
 use Rattle.std.specs.Prelude.{nat_lt, if◌then◌else◌}
 use Rattle.std.specs.List.{AllByRecursion, count_by}
 use Rattle.std.proofs.lemmas.Bool.{and_from}
@@ -98,6 +98,15 @@ none_counted number (one ∷ others) e = of (is_number number one) refl (none_co
   of false q later = (q, later (omega (arith, e, count-cons number one others)))
 
 -- ---- the note of a number
+
+-- without it there is one less, or as many where none has the number
+pub one_less : (number : ℕ) (notes : List Note) → (length (without number notes) ≤ length notes) × (length notes ≤ suc (length (without number notes)))
+one_less number [] = (omega arith, omega arith)
+one_less number (one ∷ others) = of (is_number number one) (one_less number others) where
+  of : (b : Bool) → (length (without number others) ≤ length others) × (length others ≤ suc (length (without number others)))
+      → (length (if b then others else one ∷ without number others) ≤ length (one ∷ others)) × (length (one ∷ others) ≤ suc (length (if b then others else one ∷ without number others)))
+  of true later = (omega arith, omega arith)
+  of false later = let most = later.0 in let least = later.1 in (omega (arith, most), omega (arith, least))
 
 -- the note that is found stands between the others
 pub record IsFound (number : ℕ) (notes : List Note) (note : Note) : Type 0 where

@@ -1,4 +1,4 @@
--- What each effect does to the line: it keeps it valid, and fates.
+-- What each effect does to the line: it keeps it valid, fates, and how many notes may be open.
 use Rattle.std.proofs.Common.{◌≡◌, ℕ, suc, zero, ◌+◌, ◌<◌, ◌==◌, Bool, true, false, not, ◌||◌, ◌&&◌, List, [], ◌∷◌, ◌++◌, length, Option, Some, None, option_map, find, refl, sym, ap, subst, arith, cond, append_assoc, ◌∙◌}
 use Rattle.std.specs.Prelude.{nat_lt, if◌then◌else◌}
 use Rattle.std.specs.List.{AllByRecursion, count_by}
@@ -31,19 +31,21 @@ use Rattle.note_line.proofs.Moves.{stays, leaves, elsewhere, Moves, moves-valid,
 use Rattle.note_line.proofs.Ordering.{Ordered, ordered, valid_of, comes, head-leaves, head-opens, head-spools, oldest-opens, spooled-leaves, open-leaves, goes-back}
 use Rattle.note_line.proofs.Places.{IsOther, IsPlaced, placed-between, count-cons, count-within, count-placed, none_counted, IsFound, found-between}
 
--- the line stays valid, and fates are kept
+-- the line stays valid, fates are kept, and as many notes may be open
 pub record Keeps (g h : Line) : Type 0 where
   pub valid : LineValid h
   pub fates : KeepsFates g h
+  pub window : h.window ≡ g.window
 
 -- and the texts stay within the limit
 pub record Goes (g h : Line) : Type 0 where
   pub valid : LineValid h
   pub fates : KeepsFates g h
+  pub window : h.window ≡ g.window
   pub short : AreShort g → AreShort h
 
 pub keeps : (g h : Line) → Goes g h → Keeps g h
-keeps g h goes = record { valid = goes.valid; fates = goes.fates }
+keeps g h goes = record { valid = goes.valid; fates = goes.fates; window = goes.window }
 
 -- ---- words
 
@@ -76,15 +78,15 @@ fates-trans g m h p q = record {
 }
 
 same : (l : Line) → LineValid l → Goes l l
-same l v = record { valid = v; fates = fates-same l; short = λ s. s }
+same l v = record { valid = v; fates = fates-same l; window = refl; short = λ s. s }
 
 together : (g m h : Line) → Goes g m → Goes m h → Goes g h
-together g m h p q = record { valid = q.valid; fates = fates-trans g m h p.fates q.fates; short = λ s. q.short (p.short s) }
+together g m h p q = record { valid = q.valid; fates = fates-trans g m h p.fates q.fates; window = q.window ∙ p.window; short = λ s. q.short (p.short s) }
 
 -- ---- a note goes from one fate to another
 
 moved : (g h : Line) → LineValid g → Moves g h → Goes g h
-moved g h v m = record { valid = moves-valid g h m v; fates = moves-fates g h m; short = shifts-all IsShort m.note _ _ m.shifts }
+moved g h v m = record { valid = moves-valid g h m v; fates = moves-fates g h m; window = m.window; short = shifts-all IsShort m.note _ _ m.shifts }
 
 -- a fate that passes the test of a place
 waits : (fate : Option Fate) → passes is_waiting fate ≡ true → fate ≡ Some Waiting
@@ -151,6 +153,7 @@ head-dropped l (note ∷ notes) w v = moved l _ v (record {
   waiting = λ number. rw w (let e = count-cons number note notes in omega (arith, e));
   spooled = λ number. refl;
   opened = λ number. refl;
+  window = refl;
   ordered = head-leaves l.opened l.spool.notes notes l.kinds l.window note (rw w at (ordered l v));
 })
 
@@ -168,6 +171,7 @@ head-sent l (note ∷ notes) w few may free v = moved l _ v (record {
   waiting = λ number. rw w (let e = count-cons number note notes in omega (arith, e));
   spooled = λ number. refl;
   opened = λ number. let e = count-push number l.opened note in omega (arith, e);
+  window = refl;
   ordered = head-opens l.opened l.spool.notes notes l.kinds l.window note few (free note may) (rw w at (ordered l v));
 })
 
@@ -184,6 +188,7 @@ head-spooled l note notes s w e in_kinds v = moved l _ v (record {
   waiting = λ number. rw w (let k = count-cons number note notes in omega (arith, k));
   spooled = λ number. rw e (let k = count-push number l.spool.notes note in omega (arith, k));
   opened = λ number. refl;
+  window = refl;
   ordered = rw e (head-spools l.opened l.spool.notes notes l.kinds l.window note in_kinds (rw w at (ordered l v)));
 })
 
@@ -205,6 +210,7 @@ open-spooled l number note s found e in_kinds v = moved l _ v (record {
   waiting = λ other. refl;
   spooled = λ other. rw e (let k = count-placed other note l.spool.notes in omega (arith, k));
   opened = λ other. rw (found.others, found.whole) (let k = count-within other found.before found.behind note in omega (arith, k));
+  window = refl;
   ordered = rw (found.others, e) (goes-back found.before found.behind l.spool.notes l.waiting l.kinds l.window note in_kinds (none_spooled l note.number is_open_ v) (rw found.whole at (ordered l v)));
 }) where
   is_open_ : fate_of note.number l.told ≡ Some Open
@@ -226,6 +232,7 @@ oldest-sent l note notes s w few e v = moved l _ v (record {
   waiting = λ number. refl;
   spooled = λ number. rw (w, e) (let k = count-cons number note notes in omega (arith, k));
   opened = λ number. let k = count-push number l.opened note in omega (arith, k);
+  window = refl;
   ordered = rw e (oldest-opens l.opened notes l.waiting l.kinds l.window note few (rw w at (ordered l v)));
 })
 
@@ -242,6 +249,7 @@ spooled-dropped cause l a b note s w e v = moved l _ v (record {
   waiting = λ number. refl;
   spooled = λ number. rw (w, e) (let k = count-within number a b note in omega (arith, k));
   opened = λ number. refl;
+  window = refl;
   ordered = rw e (spooled-leaves l.opened a b l.waiting l.kinds l.window note (rw w at (ordered l v)));
 })
 
@@ -258,6 +266,7 @@ open-ended l number fate note w s p found v = moved l _ v (record {
   waiting = λ other. rw w refl;
   spooled = λ other. rw s refl;
   opened = λ other. rw (found.others, found.whole, p) (let e = count-within other found.before found.behind note in omega (arith, e));
+  window = refl;
   ordered = rw found.others (open-leaves found.before found.behind l.spool.notes l.waiting l.kinds l.window note (rw found.whole at (ordered l v)));
 })
 
@@ -315,6 +324,7 @@ respooled l s e v = record {
     opened = v.fated.opened;
   });
   fates = record { numbers = omega arith; what = λ number b. refl; ended = λ number fate f over. f };
+  window = refl;
   short = λ short. subst (AllByRecursion IsShort) (sym stand) short;
 } where
   h : Line
@@ -414,6 +424,7 @@ other_kinds kinds l none v = record {
     of_kinds = rw (no_notes l.spool.notes none) tt;
   };
   fates = record { numbers = omega arith; what = λ number b. refl; ended = λ number fate f over. f };
+  window = refl;
   short = λ short. short;
 } where
   told_still : (note : Note) → IsTold l note → IsTold (record l { kinds = kinds }) note
@@ -472,7 +483,7 @@ noted-fates kind id text l = record {
 }
 
 pub noted-keeps : (kind : Kind) (id : ℕ) (text : List ℕ) (l : Line) → LineValid l → Keeps l (noted kind id text l)
-noted-keeps kind id text l v = record { valid = noted-valid kind id text l v; fates = noted-fates kind id text l }
+noted-keeps kind id text l v = record { valid = noted-valid kind id text l v; fates = noted-fates kind id text l; window = refl }
 
 -- ---- no note
 

@@ -27,8 +27,8 @@ stops-calm true s calm inactive = refl
 stops-calm false s calm inactive = calm inactive
 
 -- where a row starts at such a line, it leads to such a line
-abbrev RowCalm : Around → Line → Row → Type 0
-RowCalm a l r = r.when a l ≡ true → IsCalm (r.effect a l)
+abbrev RowCalm : Around → ℕ → Line → Row → Type 0
+RowCalm a at l r = r.when a at l ≡ true → IsCalm (r.effect a at l)
 
 -- a row fires, and leads to an ACTIVE state
 to_active : (P : Type 0) (b : Bool) (s t : Spool) → b ≡ true → is_inactive t.load ≡ false → is_inactive (if b then t else s).load ≡ true → P
@@ -44,8 +44,8 @@ to_no_output false s t starts rests = absurd (true≢false (sym starts))
 asked-calm : (l h : Line) → h.spool.load ≡ l.spool.load → not (is_inactive l.spool.load) ≡ true → IsCalm h
 asked-calm l h same active inactive = both (is_no_output h.spool.unload ≡ true) (is_inactive l.spool.load) active (ap is_inactive (sym same) ∙ inactive)
 
-rows_calm : (a : Around) (l : Line) → IsCalm l → AllByRecursion (RowCalm a l) line_table
-rows_calm a l calm = (
+rows_calm : (a : Around) (at : ℕ) (l : Line) → IsCalm l → AllByRecursion (RowCalm a at l) line_table
+rows_calm a at l calm = (
   (λ w inactive. to_active (is_no_output (restated 1 l).spool.unload ≡ true) (is_inactive l.spool.load && has_note l.spool) l.spool (activates l.spool) w refl inactive),
   (
     (λ w inactive. to_active (is_no_output (restated 2 l).spool.unload ≡ true) (is_not_full l.spool.load && spool.is_at_capacity l.spool) l.spool (fills l.spool) w refl inactive),
@@ -72,7 +72,7 @@ rows_calm a l calm = (
                         (
                           (λ w. stays-calm l (open_head l) (sending l) calm),
                           (
-                            (λ w. stops-calm (is_transmit (with_open (failed a) l.opened l).spool.unload) (with_open (failed a) l.opened l).spool (stays-calm l (with_open (failed a) l.opened l) (failing a l) calm)),
+                            (λ w. stops-calm (is_transmit (with_open (failed a) at l).spool.unload) (with_open (failed a) at l).spool (stays-calm l (with_open (failed a) at l) (failing a at l) calm)),
                             tt,
                           ),
                         ),
@@ -89,14 +89,14 @@ rows_calm a l calm = (
   ),
 )
 
-pub row-calm : (a : Around) (l : Line) (row : ℕ) → line_starts a row l ≡ true → IsCalm l → IsCalm (row_effect a row l)
-row-calm a l row starts calm = of (row_of row) refl starts where
-  of : (one : Option Row) → row_of row ≡ one → starts_at one a l ≡ true → IsCalm (effect_of one a l)
+pub row-calm : (a : Around) (l : Line) (row at : ℕ) → line_starts a row at l ≡ true → IsCalm l → IsCalm (row_effect a row at l)
+row-calm a l row at starts calm = of (row_of row) refl starts where
+  of : (one : Option Row) → row_of row ≡ one → starts_at one a at l ≡ true → IsCalm (effect_of one a at l)
   of None q w = absurd (true≢false (sym w))
-  of (Some r) q w = (find_gives (RowCalm a l) (λ r. r.number == row) line_table r (rows_calm a l calm) q).0 w
+  of (Some r) q w = (find_gives (RowCalm a at l) (λ r. r.number == row) line_table r (rows_calm a at l calm) q).0 w
 
-pub answered-calm : (l : Line) → IsCalm l → IsCalm (answered l)
-answered-calm l = stays-calm l _ (open-stays (fated Answered) (λ note l. record { load = refl; unload = refl }) l.opened l)
+pub answered-calm : (number : ℕ) (l : Line) → IsCalm l → IsCalm (answered number l)
+answered-calm number l = stays-calm l (answered number l) (open-stays (fated Answered) (λ note h. record { load = refl; unload = refl }) number l)
 
 pub kinds-calm : (kinds : SpooledKinds) (l : Line) → IsCalm l → IsCalm (with_kinds kinds l)
 kinds-calm kinds l calm = of (has_note l.spool) where

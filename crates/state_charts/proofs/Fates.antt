@@ -1,20 +1,22 @@
 -- How the rows of table 3 change what becomes of notes.
-use Rattle.std.proofs.Common.{◌≡◌, ℕ, zero, suc, ◌-◌, ◌==◌, Bool, true, false, ◌||◌, List, [], ◌∷◌, ◌++◌, length, slice_get, Option, Some, None, refl, sym, ap, subst, ◌∙◌, append_assoc}
+use Rattle.std.proofs.Common.{◌≡◌, ℕ, zero, suc, ◌-◌, ◌==◌, Bool, true, false, ◌||◌, List, [], ◌∷◌, ◌++◌, length, slice_get, Option, Some, None, find, cond, refl, sym, ap, subst, ◌∙◌, append_assoc}
 use Rattle.std.specs.Prelude.{if◌then◌else◌, nat_le}
 use Rattle.std.specs.List.{AllByRecursion}
 use Rattle.std.proofs.lemmas.Bool.{true≢false, eqb-true, eq-eqb, or_left}
 use Rattle.spool.specs.declared.note.Note.{Note}
 use Rattle.spool.specs.Spool as spool
 use Rattle.spool.specs.Full.{lost}
+use Rattle.spool.specs.ByNumber.{placed}
 use Rattle.note_line.specs.declared.around.Around.{Around}
 use Rattle.note_line.specs.declared.fate.Told.{Told}
 use Rattle.note_line.specs.declared.fate.Fate.{Fate}
-use Rattle.note_line.specs.declared.fate.Fate.TheVariants.{Open, Waiting, Spooled, Dropped}
+use Rattle.note_line.specs.declared.fate.Fate.TheVariants.{Answered, Open, Waiting, Spooled, Dropped}
 use Rattle.note_line.specs.declared.fate.DropCause.TheVariants.{NoSpool, Full, Purged}
-use Rattle.note_line.specs.Line.{Line, in_kind, fate_of, with_fate, fated, with_head, with_open, lost_is_dropped, spooled, returned, sent, open_oldest_of, purge_oldest_of, failed}
+use Rattle.note_line.specs.Line.{Line, is_number, without, in_kind, fate_of, with_fate, fated, with_head, with_one, with_open, lost_is_dropped, spooled, returned, sent, open_oldest_of, purge_oldest_of, failed, answered}
 use Rattle.note_line.specs.Table3.{Row, line_table, row_of, starts_at, effect_of}
 use Rattle.note_line.specs.Fates.{LineValid}
 use Rattle.note_line.proofs.Numbers.{fate_of-with_fate, fate_of-with_other}
+use Rattle.note_line.proofs.Places.{IsFound, found-between, all_placed}
 use Rattle.note_line.proofs.Rows.{find_gives, head_waits, spooled_lies, open_is_open}
 use Rattle.state_arrows.specs.Arrows.{is_one_of}
 use Rattle.state_charts.specs.TableThree.{row_arrows, fate_number, note_arrow, LeadsNote}
@@ -149,27 +151,34 @@ oldest-purged : (l : Line) → LineValid l → (notes : List Note) → l.spool.n
 oldest-purged l v [] e = nothing 6 l.told
 oldest-purged l v (note ∷ notes) e = one 6 note.number l.told Spooled (Dropped Purged) (spooled_lies l [] notes note e v) refl
 
-open-failed : (a : Around) (l : Line) → LineValid l → (opened : Option Note) → l.opened ≡ opened → Goes 14 l.told (with_open (failed a) opened l).told
-open-failed a l v None e = nothing 14 l.told
-open-failed a l v (Some note) e = of (in_kind l.kinds note) where
+one-failed : (a : Around) (number : ℕ) (l : Line) → LineValid l → (note : Note) → IsFound number l.opened note → Goes 14 l.told (failed a note (record l { opened = without number l.opened })).told
+one-failed a number l v note found = of (in_kind l.kinds note) where
   was : fate_of note.number l.told ≡ Some Open
-  was = open_is_open l note e v
+  was = open_is_open l found.before found.behind note found.whole v
 
-  all : AllByRecursion (Lies (with_fate note.number Spooled l.told)) (note ∷ l.spool.notes)
-  all = (fate_of-with_fate note.number Spooled l.told Open was, all_still l.told note Open was l.spool.notes (all_lie l v [] l.spool.notes refl))
+  all : AllByRecursion (Lies (with_fate note.number Spooled l.told)) (placed note l.spool.notes)
+  all =
+      all_placed (Lies (with_fate note.number Spooled l.told)) note l.spool.notes (fate_of-with_fate note.number Spooled l.told Open was)
+      (all_still l.told note Open was l.spool.notes (all_lie l v [] l.spool.notes refl))
 
-  of : (b : Bool) → Goes 14 l.told (if b then returned a.overwrites note (record l { opened = None }) else fated (Dropped NoSpool) note (record l { opened = None })).told
+  of : (b : Bool) → Goes 14 l.told (if b then returned a.overwrites note (record l { opened = without number l.opened }) else fated (Dropped NoSpool) note (record l { opened = without number l.opened })).told
   of true =
-      spooling 14 l (record l { opened = None; spool = spool.put_back a.overwrites note l.spool }) note Open (spool.put_back_loses a.overwrites note l.spool) refl was
-      (λ x q. lost_lies _ a.overwrites l.spool.capacity (note ∷ l.spool.notes) x all q) refl refl refl
+      spooling 14 l (record l { opened = without number l.opened; spool = spool.put_back a.overwrites note l.spool }) note Open (spool.put_back_loses a.overwrites note l.spool) refl was
+      (λ x q. lost_lies _ a.overwrites l.spool.capacity (placed note l.spool.notes) x all q) refl refl refl
   of false = one 14 note.number l.told Open (Dropped NoSpool) was refl
 
--- so it is with each row of the table
-abbrev RowGoes : Around → Line → Row → Type 0
-RowGoes a l r = Goes r.number l.told (r.effect a l).told
+open-failed : (a : Around) (number : ℕ) (l : Line) → LineValid l → Goes 14 l.told (with_open (failed a) number l).told
+open-failed a number l v = of (find (is_number number) l.opened) refl where
+  of : (found : Option Note) → find (is_number number) l.opened ≡ found → Goes 14 l.told (with_one (failed a) number found l).told
+  of None e = nothing 14 l.told
+  of (Some note) e = one-failed a number l v note (found-between number l.opened note e)
 
-rows_go : (a : Around) (l : Line) → LineValid l → AllByRecursion (RowGoes a l) line_table
-rows_go a l v = (
+-- so it is with each row of the table
+abbrev RowGoes : Around → ℕ → Line → Row → Type 0
+RowGoes a at l r = Goes r.number l.told (r.effect a at l).told
+
+rows_go : (a : Around) (at : ℕ) (l : Line) → LineValid l → AllByRecursion (RowGoes a at l) line_table
+rows_go a at l v = (
   nothing 1 l.told,
   (
     nothing 2 l.told,
@@ -189,7 +198,7 @@ rows_go a l v = (
                   nothing 9 l.told,
                   (
                     head-spooled a l v,
-                    (head-dropped a l v, (oldest-sent l v l.spool.notes refl, (head-sent a l v, (open-failed a l v l.opened refl, tt)))),
+                    (head-dropped a l v, (oldest-sent l v l.spool.notes refl, (head-sent a l v, (open-failed a at l v, tt)))),
                   ),
                 ),
               ),
@@ -202,15 +211,48 @@ rows_go a l v = (
 )
 
 -- a row that leads a note from one fate to another has its arrow
-pub note_listed : (around : Around) (l : Line) (row note : ℕ) (from to : Fate) → LineValid l → LeadsNote around l row note from to → is_one_of row_arrows (note_arrow row from to) ≡ true
-note_listed around l row note from to v leads = of (row_of row) refl leads.starts leads.becomes where
+pub note_listed : (around : Around) (l : Line) (row at note : ℕ) (from to : Fate) → LineValid l → LeadsNote around l row at note from to → is_one_of row_arrows (note_arrow row from to) ≡ true
+note_listed around l row at note from to v leads = of (row_of row) refl leads.starts leads.becomes where
   behind : (x b : Bool) → (x || b) ≡ true → x ≡ false → b ≡ true
   behind true b e f = absurd (true≢false f)
   behind false b e f = e
 
-  of : (one : Option Row) → row_of row ≡ one → starts_at one around l ≡ true → fate_of note (effect_of one around l).told ≡ Some to → is_one_of row_arrows (note_arrow row from to) ≡ true
+  of : (one : Option Row) → row_of row ≡ one → starts_at one around at l ≡ true → fate_of note (effect_of one around at l).told ≡ Some to → is_one_of row_arrows (note_arrow row from to) ≡ true
   of None q starts becomes = absurd (true≢false (sym starts))
   of (Some r) q starts becomes =
-      let found = find_gives (RowGoes around l) (λ r. r.number == row) line_table r (rows_go around l v) q in
+      let found = find_gives (RowGoes around at l) (λ r. r.number == row) line_table r (rows_go around at l v) q in
       let same : r.number ≡ row = eqb-true r.number row found.1 in
       behind (fate_number from == fate_number to) _ (subst (λ n. may n from to ≡ true) same (found.0 note from to leads.was becomes)) leads.changes
+
+-- ---- open notes
+
+-- each open note is open, by what is told
+pub each_open : (l : Line) (front behind : List Note) → l.opened ≡ front ++ behind → LineValid l → AllByRecursion (λ (note : Note). fate_of note.number l.told ≡ Some Open) behind
+each_open l front [] e v = tt
+each_open l front (note ∷ behind) e v =
+    (open_is_open l front behind note e v, each_open l (front ++ note ∷ []) behind (e ∙ sym (append_assoc front (note ∷ []) behind)) v)
+
+-- a note that is open is found by its number
+finds : {P : Type 0} (test : Note → Bool) (front behind : List Note) (note : Note) → test note ≡ true → find test (front ++ note ∷ behind) ≡ None → P
+finds test [] behind note is none = absurd (let some : Some note ≡ None = sym (ap (λ (b : Bool). cond b (Some note) (find test behind)) is) ∙ none in cc)
+finds test (first ∷ front) behind note is none = of (test first) refl none (λ rest. finds test front behind note is rest) where
+  of : {P : Type 0} (b : Bool) → test first ≡ b → cond b (Some first) (find test (front ++ note ∷ behind)) ≡ None → (find test (front ++ note ∷ behind) ≡ None → P) → P
+  of true q f later = absurd (cc)
+  of false q f later = later f
+
+-- and is answered, where its number is
+one_answered : (l : Line) (front behind : List Note) (note : Note) → l.opened ≡ front ++ note ∷ behind → LineValid l → fate_of note.number (answered note.number l).told ≡ Some Answered
+one_answered l front behind note e v = of (find (is_number note.number) l.opened) refl where
+  is_open_ : fate_of note.number l.told ≡ Some Open
+  is_open_ = open_is_open l front behind note e v
+
+  of : (found : Option Note) → find (is_number note.number) l.opened ≡ found → fate_of note.number (with_one (fated Answered) note.number found l).told ≡ Some Answered
+  of None none = finds (is_number note.number) front behind note (eq-eqb note.number note.number refl) (ap (find (is_number note.number)) (sym e) ∙ none)
+  of (Some x) found =
+      let same : x.number ≡ note.number = eqb-true x.number note.number (found-between note.number l.opened x found).same in
+      subst (λ (n : ℕ). fate_of note.number (with_fate n Answered l.told) ≡ Some Answered) (sym same) (fate_of-with_fate note.number Answered l.told Open is_open_)
+
+pub each_answered : (l : Line) (front behind : List Note) → l.opened ≡ front ++ behind → LineValid l → AllByRecursion (λ (note : Note). fate_of note.number (answered note.number l).told ≡ Some Answered) behind
+each_answered l front [] e v = tt
+each_answered l front (note ∷ behind) e v =
+    (one_answered l front behind note e v, each_answered l (front ++ note ∷ []) behind (e ∙ sym (append_assoc front (note ∷ []) behind)) v)

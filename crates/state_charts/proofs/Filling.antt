@@ -1,5 +1,5 @@
 -- How the rows of table 3 change the states of the spool.
-use Rattle.std.proofs.Common.{◌≡◌, ℕ, ◌==◌, Bool, true, false, not, ◌&&◌, List, [], ◌∷◌, Option, Some, None, refl, sym, ap, ◌∙◌}
+use Rattle.std.proofs.Common.{◌≡◌, ℕ, ◌==◌, Bool, true, false, not, ◌&&◌, List, [], ◌∷◌, Option, Some, None, find, refl, sym, ap, ◌∙◌}
 use Rattle.std.specs.Prelude.{if◌then◌else◌}
 use Rattle.std.specs.List.{AllByRecursion}
 use Rattle.std.proofs.lemmas.Bool.{true≢false}
@@ -14,7 +14,7 @@ use Rattle.spool.specs.Table.{stops, fills, has_room_again, activates, deactivat
 use Rattle.note_line.specs.declared.around.Around.{Around}
 use Rattle.note_line.specs.declared.fate.Fate.TheVariants.{Dropped}
 use Rattle.note_line.specs.declared.fate.DropCause.TheVariants.{NoSpool}
-use Rattle.note_line.specs.Line.{Line, in_kind, fated, with_head, with_open, lost_is_dropped, spooled, returned, sent, restated, begun, spool_head, drop_head, open_head, open_oldest_of, open_oldest, purge_oldest_of, purge_oldest, failed, fail_open}
+use Rattle.note_line.specs.Line.{Line, is_number, without, in_kind, fated, with_head, with_one, with_open, lost_is_dropped, spooled, returned, sent, restated, begun, spool_head, drop_head, open_head, open_oldest_of, open_oldest, purge_oldest_of, purge_oldest, failed, fail_open}
 use Rattle.note_line.specs.Table3.{line_table}
 use Rattle.note_line.proofs.Rows.{and_first, and_second}
 use Rattle.state_arrows.specs.Arrows.{arrow, is_one_of}
@@ -45,9 +45,11 @@ pub head-stays : (act : Note → Line → Line) → ((note : Note) (l : Line) �
 head-stays act stays [] l = record { load = refl; unload = refl }
 head-stays act stays (note ∷ notes) l = let s = stays note (record l { waiting = notes }) in record { load = s.load; unload = s.unload }
 
-pub open-stays : (act : Note → Line → Line) → ((note : Note) (l : Line) → Stays l (act note l)) → (one : Option Note) (l : Line) → Stays l (with_open act one l)
-open-stays act stays None l = record { load = refl; unload = refl }
-open-stays act stays (Some note) l = let s = stays note (record l { opened = None }) in record { load = s.load; unload = s.unload }
+pub open-stays : (act : Note → Line → Line) → ((note : Note) (l : Line) → Stays l (act note l)) → (number : ℕ) (l : Line) → Stays l (with_open act number l)
+open-stays act stays number l = of (find (is_number number) l.opened) where
+  of : (one : Option Note) → Stays l (with_one act number one l)
+  of None = record { load = refl; unload = refl }
+  of (Some note) = let s = stays note (record l { opened = without number l.opened }) in record { load = s.load; unload = s.unload }
 
 pub oldest-stays : (notes : List Note) (l : Line) → Stays l (open_oldest_of notes l)
 oldest-stays [] l = record { load = refl; unload = refl }
@@ -123,9 +125,9 @@ empty_load false s starts active = absurd (true≢false (sym starts))
 same_load : (l h : Line) (row : ℕ) → h.spool.load ≡ l.spool.load → (load_of l == load_of h) ≡ false → is_one_of load_arrows (arrow row (Some (load_of l)) (Some (load_of h))) ≡ true
 same_load l h row same c = still (is_one_of load_arrows (arrow row (Some (load_of l)) (Some (load_of h))) ≡ true) (load_of l) (load_of h) (ap load_number same) c
 
--- the open note fails, before the emptying stops
-pub failing : (a : Around) (l : Line) → Stays l (with_open (failed a) l.opened l)
-failing a l = open-stays (failed a) (failed-stays a) l.opened l
+-- an open note fails, before the emptying stops
+pub failing : (a : Around) (number : ℕ) (l : Line) → Stays l (with_open (failed a) number l)
+failing a number l = open-stays (failed a) (failed-stays a) number l
 
 -- heads that are dropped, or sent
 pub dropping : (l : Line) → Stays l (with_head (fated (Dropped NoSpool)) l.waiting l)
@@ -137,8 +139,8 @@ sending l = head-stays sent (λ note m. record { load = refl; unload = refl }) l
 pub spooling : (a : Around) (l : Line) → Stays l (with_head (spooled a.overwrites) l.waiting l)
 spooling a l = head-stays (spooled a.overwrites) (spooled-stays a.overwrites) l.waiting l
 
-pub load_listed : (a : Around) (l : Line) → AllByRecursion (Listed load_of load_arrows a l) line_table
-load_listed a l = (
+pub load_listed : (a : Around) (at : ℕ) (l : Line) → AllByRecursion (Listed load_of load_arrows a at l) line_table
+load_listed a at l = (
   (λ w c. fires_load 1 0 1 (is_inactive l.spool.load && spool.has_note l.spool) l.spool (activates l.spool) w (ap load_number (inactive_is l.spool.load (and_first _ _ w))) refl refl),
   (
     (λ w c. fires_load 2 1 2 (is_not_full l.spool.load && spool.is_at_capacity l.spool) l.spool (fills l.spool) w (ap load_number (not_full_is l.spool.load (and_first _ _ w))) refl refl),
@@ -165,7 +167,7 @@ load_listed a l = (
                         (
                           (λ w c. same_load l (open_head l) 13 (sending l).load c),
                           (
-                            (λ w c. same_load l (fail_open a l) 14 (stops-load (is_transmit (with_open (failed a) l.opened l).spool.unload) (with_open (failed a) l.opened l).spool ∙ (failing a l).load) c),
+                            (λ w c. same_load l (fail_open a at l) 14 (stops-load (is_transmit (with_open (failed a) at l).spool.unload) (with_open (failed a) at l).spool ∙ (failing a at l).load) c),
                             tt,
                           ),
                         ),
@@ -229,8 +231,8 @@ asked l w = ap (λ (n : ℕ). n == 0) (may_ask (is_inactive l.spool.load) (is_no
 same_unload : (l h : Line) (row : ℕ) → h.spool.unload ≡ l.spool.unload → (unload_of l == unload_of h) ≡ false → is_one_of unload_arrows (arrow row (Some (unload_of l)) (Some (unload_of h))) ≡ true
 same_unload l h row same c = still (is_one_of unload_arrows (arrow row (Some (unload_of l)) (Some (unload_of h))) ≡ true) (unload_of l) (unload_of h) (ap unload_number same) c
 
-pub unload_listed : (a : Around) (l : Line) → IsCalm l → AllByRecursion (Listed unload_of unload_arrows a l) line_table
-unload_listed a l calm = (
+pub unload_listed : (a : Around) (at : ℕ) (l : Line) → IsCalm l → AllByRecursion (Listed unload_of unload_arrows a at l) line_table
+unload_listed a at l calm = (
   (λ w c. same_unload l (restated 1 l) 1 (same_end (is_inactive l.spool.load && spool.has_note l.spool) l.spool (activates l.spool) (sym (no_output_is l.spool.unload (calm (and_first _ _ w))))) c),
   (
     (λ w c. same_unload l (restated 2 l) 2 (same_end (is_not_full l.spool.load && spool.is_at_capacity l.spool) l.spool (fills l.spool) refl) c),
@@ -257,8 +259,8 @@ unload_listed a l calm = (
                         (
                           (λ w c. same_unload l (open_head l) 13 (sending l).unload c),
                           (
-                            (λ w c. stopped_transmit l.spool.unload (fail_open a l).spool.unload
-                                (stopped (is_transmit (with_open (failed a) l.opened l).spool.unload) (with_open (failed a) l.opened l).spool ∙ ap (λ (x : Unload). if is_transmit x then NoOutput else x) (failing a l).unload) c),
+                            (λ w c. stopped_transmit l.spool.unload (fail_open a at l).spool.unload
+                                (stopped (is_transmit (with_open (failed a) at l).spool.unload) (with_open (failed a) at l).spool ∙ ap (λ (x : Unload). if is_transmit x then NoOutput else x) (failing a at l).unload) c),
                             tt,
                           ),
                         ),

@@ -61,21 +61,22 @@ load_of l = load_number l.spool.load
 abbrev pub unload_of : Line → ℕ
 unload_of l = unload_number l.spool.unload
 
--- the arrow of a row at a line, by a number that is read of lines
-abbrev pub arrow_at : (Line → ℕ) → Around → Line → ℕ → Arrow
-arrow_at read around l row = arrow row (Some (read l)) (Some (read (row_effect around row l)))
+-- the arrow of a row at a line and the note of a number, by a number that is read of lines
+abbrev pub arrow_at : (Line → ℕ) → Around → Line → ℕ → ℕ → Arrow
+arrow_at read around l row at = arrow row (Some (read l)) (Some (read (row_effect around row at l)))
 
--- a row of table 3 starts at a line, and leads from one such number to another
-pub record Leads (read : Line → ℕ) (around : Around) (l : Line) (row : ℕ) : Type 0 where
-  pub starts : line_starts around row l ≡ true
-  pub changes : (read l == read (row_effect around row l)) ≡ false
+-- a row of table 3 starts at a line and the note of a number, and leads from one number that is read of lines to another
+pub record Leads (read : Line → ℕ) (around : Around) (l : Line) (row at : ℕ) : Type 0 where
+  pub starts : line_starts around row at l ≡ true
+  pub changes : (read l == read (row_effect around row at l)) ≡ false
 
 -- an arrow is that of such a row at some line
 pub record IsOfRow (read : Line → ℕ) (a : Arrow) : Type 0 where
   pub around : Around
   pub line : Line
-  pub leads : Leads read around line a.row
-  pub is : a ≡ arrow_at read around line a.row
+  pub at : ℕ
+  pub leads : Leads read around line a.row at
+  pub is : a ≡ arrow_at read around line a.row at
 
 -- the number of a fate
 abbrev pub fate_number : Fate → ℕ
@@ -89,21 +90,22 @@ fate_number (Dropped cause) = 4
 abbrev pub note_arrow : ℕ → Fate → Fate → Arrow
 note_arrow row from to = arrow row (Some (fate_number from)) (Some (fate_number to))
 
--- a row of table 3 starts at a line, and leads the note of a number from one fate to another
-pub record LeadsNote (around : Around) (l : Line) (row note : ℕ) (from to : Fate) : Type 0 where
-  pub starts : line_starts around row l ≡ true
+-- a row of table 3 starts at a line and the note of a number, and leads that of a number, the same or another, from one fate to another
+pub record LeadsNote (around : Around) (l : Line) (row at note : ℕ) (from to : Fate) : Type 0 where
+  pub starts : line_starts around row at l ≡ true
   pub was : fate_of note l.told ≡ Some from
-  pub becomes : fate_of note (row_effect around row l).told ≡ Some to
+  pub becomes : fate_of note (row_effect around row at l).told ≡ Some to
   pub changes : (fate_number from == fate_number to) ≡ false
 
 -- an arrow is that of such a row at some line
 pub record IsOfNoteRow (a : Arrow) : Type 0 where
   pub around : Around
   pub line : Line
+  pub at : ℕ
   pub note : ℕ
   pub from : Fate
   pub to : Fate
-  pub leads : LeadsNote around line a.row note from to
+  pub leads : LeadsNote around line a.row at note from to
   pub is : a ≡ note_arrow a.row from to
 
 -- a spool that is INACTIVE isn't emptied

@@ -17,31 +17,32 @@ ghost use Rattle.state_charts.specs.TableThree.{load_arrows, unload_arrows, row_
 /// Each arrow of the filling is that of a row of table 3 at some line, and each row that changes the filling at a line has its arrow.
 pub fn the_filling_is_that_of_table_3()
     ensures each { AllByRecursion (IsOfRow load_of) load_arrows }
-    ensures all { (around : Around) (l : Line) (row : ℕ) → Leads load_of around l row → is_one_of load_arrows (arrow_at load_of around l row) ≡ true }
+    ensures all { (around : Around) (l : Line) (row at : ℕ) → Leads load_of around l row at → is_one_of load_arrows (arrow_at load_of around l row at) ≡ true }
 {}
 
-/// A spool isn't emptied while it is INACTIVE: not where no note was made, and so on as a row fires, a note is made, the open note is answered,
+/// A spool isn't emptied while it is INACTIVE: not where no note was made, and so on as a row fires, a note is made, an open note is answered,
 /// or other kinds of note are to be spooled.
 pub fn an_inactive_spool_is_not_emptied()
-    ensures opening { (capacity : ℕ) (kinds : SpooledKinds) → IsCalm (opening capacity kinds) }
-    ensures rows { (around : Around) (l : Line) (row : ℕ) → line_starts around row l ≡ true → IsCalm l → IsCalm (row_effect around row l) }
+    ensures opening { (capacity window : ℕ) (kinds : SpooledKinds) → IsCalm (opening capacity window kinds) }
+    ensures rows { (around : Around) (l : Line) (row at : ℕ) → line_starts around row at l ≡ true → IsCalm l → IsCalm (row_effect around row at l) }
     ensures noted { (kind : Kind) (id : ℕ) (text : List ℕ) (l : Line) → IsCalm l → IsCalm (noted kind id text l) }
-    ensures answered { (l : Line) → IsCalm l → IsCalm (answered l) }
+    ensures answered { (number : ℕ) (l : Line) → IsCalm l → IsCalm (answered number l) }
     ensures kinds { (kinds : SpooledKinds) (l : Line) → IsCalm l → IsCalm (with_kinds kinds l) }
 {}
 
 /// The same of the emptying as of the filling, at lines whose spool isn't emptied while it is INACTIVE.
 pub fn the_emptying_is_that_of_table_3()
     ensures each { AllByRecursion (IsOfRow unload_of) unload_arrows }
-    ensures all { (around : Around) (l : Line) (row : ℕ) → IsCalm l → Leads unload_of around l row → is_one_of unload_arrows (arrow_at unload_of around l row) ≡ true }
+    ensures all { (around : Around) (l : Line) (row at : ℕ) → IsCalm l → Leads unload_of around l row at → is_one_of unload_arrows (arrow_at unload_of around l row at) ≡ true }
 {}
 
-/// The same of what becomes of a note, at valid lines. Beside the rows a note is made, and waits, and the open one is answered.
+/// The same of what becomes of a note, at valid lines. Beside the rows a note is made, and waits, and each open one may be answered.
 pub fn what_becomes_of_a_note_is_that_of_table_3()
     ensures each { AllByRecursion IsOfNoteRow row_arrows }
-    ensures all { (around : Around) (l : Line) (row note : ℕ) (from to : Fate)
-        → LineValid l → LeadsNote around l row note from to → is_one_of row_arrows (note_arrow row from to) ≡ true }
+    ensures all { (around : Around) (l : Line) (row at note : ℕ) (from to : Fate)
+        → LineValid l → LeadsNote around l row at note from to → is_one_of row_arrows (note_arrow row from to) ≡ true }
     ensures made { (kind : Kind) (id : ℕ) (text : List ℕ) (l : Line) → fate_of (next l) (noted kind id text l).told ≡ Some Waiting }
-    ensures open { (l : Line) (note : Note) → LineValid l → l.opened ≡ Some note → fate_of note.number l.told ≡ Some Open }
-    ensures answered { (l : Line) (note : Note) → LineValid l → l.opened ≡ Some note → fate_of note.number (answered l).told ≡ Some Answered }
+    ensures open { (l : Line) → LineValid l → AllByRecursion (λ (note : Note). fate_of note.number l.told ≡ Some Open) l.opened }
+    ensures answered { (l : Line)
+        → LineValid l → AllByRecursion (λ (note : Note). fate_of note.number (answered note.number l).told ≡ Some Answered) l.opened }
 {}

@@ -1,4 +1,4 @@
-use Rattle.gem_model.proofs.Validity.{run-sendings}
+use Rattle.gem_model.proofs.Sendings.{run-sendings}
 use Rattle.gem_model.proofs.laws.sendings_never_go_back.Goals as goal
 
 pub returns : goal.returns

@@ -3,7 +3,7 @@ use Rattle.state_charts.proofs.Calm.{row-calm, answered-calm, kinds-calm}
 use Rattle.state_charts.proofs.laws.an_inactive_spool_is_not_emptied.Goals as goal
 
 pub returns-clause-opening : goal.returns-clause-opening
-returns-clause-opening c = λ capacity kinds inactive. refl
+returns-clause-opening c = λ capacity window kinds inactive. refl
 
 pub returns-clause-rows : goal.returns-clause-rows
 returns-clause-rows c = row-calm

@@ -8,4 +8,4 @@ pub returns-clause-each : goal.returns-clause-each
 returns-clause-each c = unload_of_rows
 
 pub returns-clause-all : goal.returns-clause-all
-returns-clause-all c = λ around l row calm leads. each_listed unload_of unload_arrows around l (unload_listed around l calm) row leads
+returns-clause-all c = λ around l row at calm leads. each_listed unload_of unload_arrows around at l (unload_listed around at l calm) row leads

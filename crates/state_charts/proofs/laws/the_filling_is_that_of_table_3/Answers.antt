@@ -8,4 +8,4 @@ pub returns-clause-each : goal.returns-clause-each
 returns-clause-each c = load_of_rows
 
 pub returns-clause-all : goal.returns-clause-all
-returns-clause-all c = λ around l row leads. each_listed load_of load_arrows around l (load_listed around l) row leads
+returns-clause-all c = λ around l row at leads. each_listed load_of load_arrows around at l (load_listed around at l) row leads

@@ -90,16 +90,7 @@ created_are g h x starts is = of (x.row.table == 1) (x.row.table == 2) (x.row.ta
   of false false true one two three = none (creations_as g x ∙ rw (one, two, three) refl)
   of false false false one two three = on_floor (record { not_1 = one; not_2 = two; not_3 = three })
 
--- ---- one of tables 1 to 3, whatever object it names
-
-pub of_table_1 : (g : State) (x : Firing) → x.row.table ≡ 1 → fire g (firing 1 0 x.row.row) ≡ fire g x
-of_table_1 g x is = subst (λ (t : ℕ). fire g (firing 1 0 x.row.row) ≡ fire g (firing t x.object x.row.row)) (sym is) refl
-
-pub of_table_2 : (g : State) (x : Firing) → x.row.table ≡ 2 → fire g (firing 2 0 x.row.row) ≡ fire g x
-of_table_2 g x is = subst (λ (t : ℕ). fire g (firing 2 0 x.row.row) ≡ fire g (firing t x.object x.row.row)) (sym is) refl
-
-pub of_table_3 : (g : State) (x : Firing) → x.row.table ≡ 3 → fire g (firing 3 0 x.row.row) ≡ fire g x
-of_table_3 g x is = subst (λ (t : ℕ). fire g (firing 3 0 x.row.row) ≡ fire g (firing t x.object x.row.row)) (sym is) refl
+-- ---- the least row of the floor
 
 -- the least row of the floor is one that can be listed, and starts
 pub floor_listed : (g : State) (x : Firing) → floor_least g.floor ≡ Some x → IsListed x

@@ -84,9 +84,12 @@ direct_not row n direct none same = absurd (true≢false (sym direct ∙ ap is_d
 sent_fact : (sent : List Note) → LineFact (λ m. Unit {0}) (WereSent sent)
 sent_fact sent = record {
   new = λ kind id text l at. (
-    (at.0.0, at.0.1,
-    all_joined (Follows sent) l.waiting (record { number = next l; kind = kind; id = id; text = text } ∷ []) at.0.2
-    ((λ new. all_mapped (λ (x : Note). x.number < next l) (λ (x : Note). NotBelow x (record { number = next l; kind = kind; id = id; text = text })) (λ x less same. omega (arith, less)) sent at.1), tt)),
+    (
+      at.0.0,
+      at.0.1,
+      all_joined (Follows sent) l.waiting (record { number = next l; kind = kind; id = id; text = text } ∷ []) at.0.2
+          ((λ new. all_mapped (λ (x : Note). x.number < next l) (λ (x : Note). NotBelow x (record { number = next l; kind = kind; id = id; text = text })) (λ x less same. omega (arith, less)) sent at.1), tt),
+    ),
     all_mapped (λ (x : Note). x.number < next l) (λ (x : Note). x.number < next (noted kind id text l)) (λ x less. omega (arith, less, next_more kind id text l)) sent at.1,
   );
   answer = λ number l at. (answered-places (IsOld sent) (Follows sent) number l at.0, below_next sent l (answered number l) (next_same l (answered number l) (answered-tells number l)) at.1);
@@ -174,9 +177,10 @@ none_follow sent g f none at =
 ready_follow : (sent : List Note) (n : ℕ) (g : State) (f : Firing) → least g ≡ Some f → Goes n g → WereSent sent g.line → Follow sent g f
 ready_follow sent n g f ready goes at =
     line_or_other (Follow sent g) g f ready
-    (λ row is.
-    (one_follows sent (sends row g.line) (follows_sent sent row g.line at) (few_sent row g.line),
-    by_noting (λ m. Unit {0}) (WereSent (sent ++ sends row g.line)) (sent_fact (sent ++ sends row g.line)) g (firing 3 0 row) (sent_more sent (around g) row g.line is goes.0 at)))
+    (λ row is. (
+      one_follows sent (sends row g.line) (follows_sent sent row g.line at) (few_sent row g.line),
+      by_noting (λ m. Unit {0}) (WereSent (sent ++ sends row g.line)) (sent_fact (sent ++ sends row g.line)) g (firing 3 0 row) (sent_more sent (around g) row g.line is goes.0 at),
+    ))
     (λ not_3. none_follow sent g f (none_sent g f not_3) (by_other (λ m. Unit {0}) (WereSent sent) (sent_fact sent) g f not_3 at))
 
 created_follow : (sent : List Note) (g : State) (d : Firing) → is_creation d ≡ true → WereSent sent g.line → Follow sent g d
@@ -209,9 +213,11 @@ path_follows sent n (d ∷ due) (f ∷ fs) are g h path goes at =
 entry_follows : (sent : List Note) (n : ℕ) (g : State) (entry : Entry) → Goes n g → WereSent sent g.line → FollowTo sent (sent_behind (input_of g entry)) (entry_after g entry)
 entry_follows sent n g entry goes at = of (input_of g entry) refl where
   of : (input : Option Outcome) → input_of g entry ≡ input → FollowTo sent (sent_behind input) (entry_after g entry)
-  of None here =
-      (tt, subst (λ (all : List Note). WereSent all (entry_after g entry).line) (sym (append-nil sent))
-      (behind_entry (λ (h : State). WereSent sent h.line) g entry at at (λ o is. none_some o (sym here ∙ is))))
+  of None here = (
+    tt,
+    subst (λ (all : List Note). WereSent all (entry_after g entry).line) (sym (append-nil sent))
+        (behind_entry (λ (h : State). WereSent sent h.line) g entry at at (λ o is. none_some o (sym here ∙ is))),
+  )
   of (Some o) here =
       subst (FollowTo sent (sent_along o.after (settling o.after))) (sym (after_acting g entry o here))
       (path_follows sent n [] (settling o.after) tt o.after (settled o.after) (settles_so o.after) (goes_input n g entry o here goes)

@@ -1,6 +1,6 @@
 -- The notes that are sent: each is the least of its kind among those that are spooled or wait; where one may be open at once none of a kind goes
 -- back; a number is sent again only after its transaction failed, and none that has ended is sent again.
-use Rattle.std.proofs.Common.{◌≡◌, ℕ, suc, ◌+◌, ◌<◌, ◌≤◌, ◌==◌, Bool, true, false, if◌then◌else◌, List, [], ◌∷◌, ◌++◌, length, map, take, find, Contains, Option, Some, None, refl, sym, ap, subst, arith, append_assoc, length-append, ◌∙◌}
+use Rattle.std.proofs.Common.{◌≡◌, ℕ, suc, ◌<◌, ◌≤◌, ◌==◌, Bool, true, false, if◌then◌else◌, List, [], ◌∷◌, ◌++◌, length, map, take, Contains, Option, Some, None, refl, sym, ap, subst, arith, append_assoc, length-append, ◌∙◌}
 use Rattle.std.specs.List.{AllByRecursion}
 use Rattle.std.proofs.lemmas.Bool.{true≢false, eq-eqb, eqb-true}
 use Rattle.std.proofs.lemmas.Bool.Decides.{nat_tests}
@@ -12,10 +12,9 @@ use Rattle.spool.specs.declared.note.Note.{Note}
 use Rattle.spool.specs.declared.note.Kind.{Kind}
 use Rattle.spool.specs.Spool.{has_note}
 use Rattle.note_line.specs.declared.around.Around.{Around}
-use Rattle.note_line.specs.declared.around.SpooledKinds.{SpooledKinds}
 use Rattle.note_line.specs.declared.fate.Fate.{Fate}
 use Rattle.note_line.specs.declared.fate.Fate.TheVariants.{Answered, Open, Waiting, Spooled, Dropped}
-use Rattle.note_line.specs.Line.{Line, next, standing, is_number, noted, answered, with_kinds, fate_of}
+use Rattle.note_line.specs.Line.{Line, next, standing, noted, answered, fate_of}
 use Rattle.note_line.specs.Table3.{sends, row_effect}
 use Rattle.note_line.specs.Table3 as table
 use Rattle.note_line.specs.Order.{Pairwise, NotBelow, Between}
@@ -161,9 +160,9 @@ module _ (n : ℕ) (R : Note → Note → Type 0) (I : Note → Line → Type 0)
   later : (x : Note) (due fs : List Firing) → AreCreations due → (g h : State) → Path g due fs h → I x g.line → AllByRecursion (R x) (sent_along g fs) × I x h.line
   later x due fs are g h path at = (
     each_sent (R x) g fs
-    (path_each (λ (k : State). I x k.line) (λ (k : State) (f : Firing). AllByRecursion (R x) (sent_by k f))
-    (λ k f ready i. (sent_of (R x) k f (is.says x k.line i), i_ready x k f ready i))
-    (λ k d made i. (sent_of (R x) k d (is.says x k.line i), i_created x k d made i)) due fs are g h path at),
+        (path_each (λ (k : State). I x k.line) (λ (k : State) (f : Firing). AllByRecursion (R x) (sent_by k f))
+        (λ k f ready i. (sent_of (R x) k f (is.says x k.line i), i_ready x k f ready i))
+        (λ k d made i. (sent_of (R x) k d (is.says x k.line i), i_created x k d made i)) due fs are g h path at),
     path_keeps (λ (k : State). I x k.line) (i_ready x) (i_created x) due fs are g h path at,
   )
 
@@ -240,10 +239,11 @@ above_row x a row note l at = let below = at.0 in (omega (arith, below, next_sam
 above_fact : (x : Note) → LineFact (λ m. Unit {0}) (Above x)
 above_fact x = record {
   new = λ kind id text l at.
-      let below = at.0 in
-      (omega (arith, below, next_more kind id text l),
-      subst (AllByRecursion (NotBelow x)) (sym (noted_standing kind id text l))
-      (all_joined (NotBelow x) (standing l) (record { number = next l; kind = kind; id = id; text = text } ∷ []) at.1 ((λ same. omega (arith, below)), tt)));
+      let below = at.0 in (
+        omega (arith, below, next_more kind id text l),
+        subst (AllByRecursion (NotBelow x)) (sym (noted_standing kind id text l))
+            (all_joined (NotBelow x) (standing l) (record { number = next l; kind = kind; id = id; text = text } ∷ []) at.1 ((λ same. omega (arith, below)), tt)),
+      );
   answer = λ number l at. let below = at.0 in (omega (arith, below, next_same l (answered number l) (answered-tells number l)), answered-stands (NotBelow x) number l at.1);
   kinds = λ k l at. (either_way (λ (h : Line). x.number < next h) (has_note l.spool) l (record l { kinds = k }) at.0 at.0, kinds-stands (NotBelow x) k l at.1);
   row = λ a row note l direct may at. above_row x a row note l at;
@@ -276,11 +276,15 @@ above_sent a row l ready valid one = of (sends row l) refl (given_next a row l r
   of (x ∷ []) is below all =
       let counts = length-append l.opened (sends row l) in
       let single : length (sends row l) ≡ 1 = ap length is in
-      let alone : AllByRecursion (NotBelow x) l.opened = all_none (NotBelow x) l.opened (omega (arith, few, counts, single)) in
-      ((below.0,
-      all_joined (NotBelow x) h.opened (h.spool.notes ++ h.waiting)
-      (subst (AllByRecursion (NotBelow x)) (sym (opened ∙ ap (λ (notes : List Note). l.opened ++ notes) is)) (all_joined (NotBelow x) l.opened (x ∷ []) alone ((λ same. omega arith), tt)))
-      (row-rests (NotBelow x) a row 0 l (λ fails. not_failing a row l ready fails) all.0)), tt)
+      let alone : AllByRecursion (NotBelow x) l.opened = all_none (NotBelow x) l.opened (omega (arith, few, counts, single)) in (
+        (
+          below.0,
+          all_joined (NotBelow x) h.opened (h.spool.notes ++ h.waiting)
+              (subst (AllByRecursion (NotBelow x)) (sym (opened ∙ ap (λ (notes : List Note). l.opened ++ notes) is)) (all_joined (NotBelow x) l.opened (x ∷ []) alone ((λ same. omega arith), tt)))
+              (row-rests (NotBelow x) a row 0 l (λ fails. not_failing a row l ready fails) all.0),
+        ),
+        tt,
+      )
   of (x ∷ (y ∷ others)) is below all =
       let counts = length-append l.opened (sends row l) in
       let more : length (sends row l) ≡ suc (suc (length others)) = ap length is in
@@ -330,17 +334,19 @@ above_other n k less = grind (arith, nat_tests)
 
 away_row : (n : ℕ) (a : Around) (row note : ℕ) (l : Line) → (row ≡ 14 → (note == n) ≡ false) → Away n l → Away n (row_effect a row note l)
 away_row n a row note l may at =
-    let below = at.0 in
-    (omega (arith, below, next_same l (row_effect a row note l) (row-tells a row note l)),
-    row-rests (IsOther n) a row note l (λ fails one found. other_number n note one.number (may fails) (eqb-true one.number note (found-between note l.opened one found).same)) at.1)
+    let below = at.0 in (
+      omega (arith, below, next_same l (row_effect a row note l) (row-tells a row note l)),
+      row-rests (IsOther n) a row note l (λ fails one found. other_number n note one.number (may fails) (eqb-true one.number note (found-between note l.opened one found).same)) at.1,
+    )
 
 away_fact : (n : ℕ) → LineFact (λ m. (m == n) ≡ false) (Away n)
 away_fact n = record {
   new = λ kind id text l at.
-      let below = at.0 in
-      (omega (arith, below, next_more kind id text l),
-      subst (AllByRecursion (IsOther n)) (append_assoc l.spool.notes l.waiting (record { number = next l; kind = kind; id = id; text = text } ∷ []))
-      (all_joined (IsOther n) (l.spool.notes ++ l.waiting) (record { number = next l; kind = kind; id = id; text = text } ∷ []) at.1 (above_other n (next l) below, tt)));
+      let below = at.0 in (
+        omega (arith, below, next_more kind id text l),
+        subst (AllByRecursion (IsOther n)) (append_assoc l.spool.notes l.waiting (record { number = next l; kind = kind; id = id; text = text } ∷ []))
+            (all_joined (IsOther n) (l.spool.notes ++ l.waiting) (record { number = next l; kind = kind; id = id; text = text } ∷ []) at.1 (above_other n (next l) below, tt)),
+      );
   answer = λ number l at. let below = at.0 in (omega (arith, below, next_same l (answered number l) (answered-tells number l)), answered-rests (IsOther n) number l at.1);
   kinds = λ k l at. (either_way (λ (h : Line). n < next h) (has_note l.spool) l (record l { kinds = k }) at.0 at.0, kinds-rests (IsOther n) k l at.1);
   row = λ a row note l direct may at. away_row n a row note l may at;
@@ -351,9 +357,10 @@ open_away : (h : Line) (front behind : List Note) → h.opened ≡ front ++ behi
 open_away h front [] is valid = tt
 open_away h front (x ∷ behind) is valid =
     let sent : fate_of x.number h.told ≡ Some Open = open_is_open h front behind x is valid in
-    let told = the_one (IsTold h) front behind x (subst (AllByRecursion (IsTold h)) is (all_first (IsTold h) h.opened (h.spool.notes ++ h.waiting) valid.fated.told)) in
-    ((told.below, all_joined (IsOther x.number) h.spool.notes h.waiting (none_spooled h x.number sent valid) (none_counted x.number h.waiting (rw sent at (valid.fated.waiting x.number)))),
-    open_away h (front ++ x ∷ []) behind (is ∙ sym (append_assoc front (x ∷ []) behind)) valid)
+    let told = the_one (IsTold h) front behind x (subst (AllByRecursion (IsTold h)) is (all_first (IsTold h) h.opened (h.spool.notes ++ h.waiting) valid.fated.told)) in (
+      (told.below, all_joined (IsOther x.number) h.spool.notes h.waiting (none_spooled h x.number sent valid) (none_counted x.number h.waiting (rw sent at (valid.fated.waiting x.number)))),
+      open_away h (front ++ x ∷ []) behind (is ∙ sym (append_assoc front (x ∷ []) behind)) valid,
+    )
 
 away_sent : (a : Around) (row : ℕ) (l : Line) → table.least a l ≡ Some row → LineValid l → AllByRecursion (λ (x : Note). Away x.number (row_effect a row 0 l)) (sends row l)
 away_sent a row l ready valid =

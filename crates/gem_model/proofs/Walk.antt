@@ -95,7 +95,6 @@ use Rattle.event_reports.specs.Reports.{Reports}
 use Rattle.event_reports.specs.declared.alarms.AlarmLine.{AlarmLine}
 use Rattle.event_reports.specs.Alarms.{set_alarm, clear_alarm}
 use Rattle.data_variables.specs.declared.val.Val.{Val}
-use Rattle.transactions.specs.Table.{Table}
 use Rattle.note_line.specs.Line.{with_kinds}
 use Rattle.note_line.specs.declared.around.SpooledKinds.{SpooledKinds}
 use Rattle.gem_model.specs.State.{Clock}

@@ -1,5 +1,5 @@
 -- A control job that executes undisturbed completes exactly at its last Done, in each history.
-use Rattle.std.proofs.Common.{◌≡◌, ◌⊎◌, ◌≤◌, ℕ, zero, suc, ◌+◌, ◌==◌, nat_le, Bool, true, false, if◌then◌else◌, List, [], ◌∷◌, Option, Some, None, option_map, unwrap_or, is_some, not, inl, inr, refl, sym, ◌∙◌, ap, subst, arith}
+use Rattle.std.proofs.Common.{◌≡◌, ◌⊎◌, ◌≤◌, ℕ, zero, suc, ◌+◌, ◌==◌, nat_le, Bool, true, false, if◌then◌else◌, List, [], ◌∷◌, Option, Some, None, is_some, not, inl, inr, refl, sym, ◌∙◌, ap, subst, arith}
 use Rattle.std.proofs.lemmas.Bool.{true≢false}
 use Rattle.std.proofs.lemmas.Bool.Decides.{Decides-eqb, nat_tests}
 use Rattle.gem_ids.specs.declared.numbers.CmdNo.{CmdNo}
@@ -48,10 +48,9 @@ use Rattle.gem_model.specs.Fire.{fire, fire_all, fire_listed}
 use Rattle.gem_model.specs.Machines.{least, creations}
 use Rattle.gem_model.specs.Settle.{Path, settled, Along}
 use Rattle.gem_model.specs.Signals.{module_of, lacks_module, module_done, signalled}
-use Rattle.gem_model.specs.Step.{Outcome, answered, acts, settles}
+use Rattle.gem_model.specs.Step.{Outcome, answered, acts}
 use Rattle.gem_model.specs.Run.{Run, input_of, entry_after, after_all}
 use Rattle.history_laws.specs.Completes.{control_of, has_completed, StartsAt, by_itself, by_word, IsCalmRun, done_of, dones, CompletesAtLast, EachCompletes}
-use Rattle.gem_model.proofs.Tests.{none_some}
 use Rattle.gem_model.proofs.FloorRows.{created_are, effect_is, ready_is}
 use Rattle.gem_model.proofs.EachFloor.{floor_each}
 use Rattle.gem_model.proofs.Each.{each_kept}

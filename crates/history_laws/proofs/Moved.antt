@@ -48,7 +48,7 @@ use Rattle.gem_model.specs.Noting.{sets_alarm}
 use Rattle.gem_model.specs.Fire.{fire_listed}
 use Rattle.gem_model.specs.Settle.{settled}
 use Rattle.gem_model.specs.Signals.{module_of, module_alarm, lacks_module, module_done, module_failed, module_down, signalled}
-use Rattle.gem_model.specs.Step.{Outcome, answered, acts, settles, step_from}
+use Rattle.gem_model.specs.Step.{Outcome, answered, settles, step_from}
 use Rattle.gem_model.specs.Run.{Run, entry_step, entry_after}
 use Rattle.history_laws.specs.Moved.{place_of, Moves, stays, is_registered, goes_with_carrier, is_lost, by_pick, by_place, EachMoves, if_open, open_number, ended_by, NeverEnds, EndsOnce}
 use Rattle.gem_model.proofs.Tests.{either_way}

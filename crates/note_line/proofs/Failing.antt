@@ -1,5 +1,5 @@
--- What is open behind a note that fails or is answered; and where every transaction fails, the open notes fail from the greatest
--- number down, and none is open behind them.
+-- What is open behind a note that fails or is answered; and where every transaction fails: the open notes from the greatest number down, and
+-- none is open behind them.
 use Rattle.std.proofs.Common.{◌≡◌, ℕ, ◌+◌, ◌-◌, ◌≤◌, ◌==◌, Bool, true, false, List, [], ◌∷◌, length, drop, Option, Some, None, find, cond, refl, sym, ap, subst, arith, ◌∙◌, if◌then◌else◌}
 use Rattle.std.specs.Prelude.{nat_lt, slice_get}
 use Rattle.std.specs.List.{count_by}

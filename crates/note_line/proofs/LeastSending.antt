@@ -1,5 +1,5 @@
 -- A note that is sent, for the first time or again, is the least of its kind among those that are spooled or wait.
-use Rattle.std.proofs.Common.{◌≡◌, ℕ, true, false, not, ◌&&◌, ◌||◌, List, [], ◌∷◌, ◌++◌, take, Some, refl, sym, ap, subst, arith, ◌∙◌}
+use Rattle.std.proofs.Common.{◌≡◌, ℕ, true, false, not, ◌&&◌, ◌||◌, List, [], ◌∷◌, ◌++◌, take, Some, refl, sym, subst, arith, ◌∙◌}
 use Rattle.std.specs.List.{AllByRecursion}
 use Rattle.spool.specs.declared.note.Note.{Note}
 use Rattle.spool.specs.Spool.{is_inactive, has_note}
